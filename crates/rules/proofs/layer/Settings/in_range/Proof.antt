@@ -1,0 +1,72 @@
+-- `Settings::in_range`: the tests in the table's order; the first that fails decides. Assumes nothing.
+use borrow.Author.Needs.{needs}
+use borrow.Author.Tests.{not-true, not-false}
+use mathlib.Core.Path.{_≡_, sym, _∙_}
+use mathlib.Core.Bool.{Bool, true, false, not, _&&_}
+use Rattle.rules.specs.Settings.{settingsInRange}
+use Rattle.rules.proofs.layer.Settings.in_range.Statement.{statement}
+use Rattle.rules.proofs.layer.Settings.in_range.Tie as tie
+
+-- what a test that was passed, or failed, says of the range that it stands for
+passed : (r b : Bool) → r ≡ b → not r ≡ false → b ≡ true
+passed r b e h = sym e ∙ not-false r h
+
+failed : (r b : Bool) → r ≡ b → not r ≡ true → b ≡ false
+failed r b e h = sym e ∙ not-true r h
+
+in-limits-requires : tie.Need-in-limits-requires
+in-limits-requires c κs = search needs
+
+returns : tie.Need-returns
+unfolding settingsInRange
+returns c = rw (failed _ _ (c .before .in-limits .ensures) (c .if1 .taken))
+
+in-limits-requires-2 : tie.Need-in-limits-requires-2
+in-limits-requires-2 c κs = search needs
+
+returns-2 : tie.Need-returns-2
+unfolding settingsInRange
+returns-2 c = rw (passed _ _ (c .before .before .before .in-limits .ensures) (c .before .before .if1 .left), failed _ _ (c .before .in-limits2 .ensures) (c .if2 .taken))
+
+in-limits-requires-3 : tie.Need-in-limits-requires-3
+in-limits-requires-3 c κs = search needs
+
+returns-3 : tie.Need-returns-3
+unfolding settingsInRange
+returns-3 c =
+    rw (
+      passed _ _ (c .before .before .before .before .before .in-limits .ensures) (c .before .before .before .before .if1 .left),
+      passed _ _ (c .before .before .before .in-limits2 .ensures) (c .before .before .if2 .left),
+      failed _ _ (c .before .in-limits3 .ensures) (c .if3 .taken),
+    )
+
+in-limits-requires-4 : tie.Need-in-limits-requires-4
+in-limits-requires-4 c κs = search needs
+
+returns-4 : tie.Need-returns-4
+unfolding settingsInRange
+returns-4 c =
+    rw (
+      passed _ _ (c .before .before .before .before .before .before .before .in-limits .ensures) (c .before .before .before .before .before .before .if1 .left),
+      passed _ _ (c .before .before .before .before .before .in-limits2 .ensures) (c .before .before .before .before .if2 .left),
+      passed _ _ (c .before .before .before .in-limits3 .ensures) (c .before .before .if3 .left),
+      failed _ _ (c .before .in-limits4 .ensures) (c .if4 .taken),
+    )
+
+in-limits-requires-5 : tie.Need-in-limits-requires-5
+in-limits-requires-5 c κs = search needs
+
+returns-5 : tie.Need-returns-5
+unfolding settingsInRange
+returns-5 c =
+    rw (
+      passed _ _ (c .before .before .before .before .before .before .before .before .in-limits .ensures) (c .before .before .before .before .before .before .before .if1 .left),
+      passed _ _ (c .before .before .before .before .before .before .in-limits2 .ensures) (c .before .before .before .before .before .if2 .left),
+      passed _ _ (c .before .before .before .before .in-limits3 .ensures) (c .before .before .before .if3 .left),
+      passed _ _ (c .before .before .in-limits4 .ensures) (c .before .if4 .left),
+    )
+    (c .in-limits5 .ensures)
+
+pub in-range-spec : {M : Type 1} → statement M
+in-range-spec =
+    tie.close (tie.spec in-limits-requires returns in-limits-requires-2 returns-2 in-limits-requires-3 returns-3 in-limits-requires-4 returns-4 in-limits-requires-5 returns-5)

@@ -1,0 +1,88 @@
+-- What each case of an answer says (RULES 12): document 01's number and place of a refusal, or the values.
+use mathlib.Core.List.{List, [], _∷_, _++_}
+use mathlib.Core.Path.{_≡_}
+use Prim.Native.Nat.{ℕ, _-_}
+use lib.ListN.{length, replicate}
+use Rattle.rules.specs.declared.layer.Settings.{Settings}
+use Rattle.rules.specs.declared.layer.Piece.{Piece}
+use Rattle.rules.specs.declared.layer.Edge.{Edge}
+use Rattle.rules.specs.declared.refusal.Refusal.{Refusal}
+use Rattle.rules.specs.declared.answers.Score.{Score}
+use Rattle.rules.specs.declared.answers.SettingsAnswer.{SettingsAnswer}
+use Rattle.rules.specs.declared.answers.EdgeAnswer.{EdgeAnswer}
+use Rattle.rules.specs.declared.answers.ScoreAnswer.{ScoreAnswer}
+use Rattle.rules.specs.declared.answers.DecomposeAnswer.{DecomposeAnswer}
+use Rattle.rules.specs.declared.answers.ReadAnswer.{ReadAnswer}
+use Rattle.rules.specs.declared.answers.LayerRead.{LayerRead}
+use Rattle.rules.specs.declared.answers.WriteAnswer.{WriteAnswer}
+use Rattle.rules.specs.Settings.{noSettings, noPiece}
+use Rattle.rules.specs.Decomposition.{Run}
+use Rattle.rules.specs.Questions.{Outcome, done, refused, Layer}
+
+-- the number of the question that was answered with no
+abbrev pub refusalNumber : Refusal → ℕ
+refusalNumber Refusal.Buffer = 1
+refusalNumber Refusal.TextSize = 2
+refusalNumber Refusal.Form = 3
+refusalNumber Refusal.Range = 4
+refusalNumber Refusal.Area = 5
+refusalNumber Refusal.Overlap = 6
+refusalNumber Refusal.MaskCount = 7
+refusalNumber Refusal.MaskRange = 8
+
+abbrev pub settingsAnswer : SettingsAnswer → Outcome Settings
+settingsAnswer (SettingsAnswer.Accepted s) = done s
+settingsAnswer (SettingsAnswer.Refused q place) = refused (refusalNumber q) place
+
+abbrev pub edgeAnswer : EdgeAnswer → Outcome Edge
+edgeAnswer (EdgeAnswer.Found e) = done e
+edgeAnswer (EdgeAnswer.Refused q place) = refused (refusalNumber q) place
+
+abbrev pub scoreAnswer : ScoreAnswer → Outcome Score
+scoreAnswer (ScoreAnswer.Scored s) = done s
+scoreAnswer (ScoreAnswer.Refused q place) = refused (refusalNumber q) place
+
+-- with the list that the call filled
+abbrev pub decomposeAnswer : DecomposeAnswer → List ℕ → Outcome Run
+decomposeAnswer (DecomposeAnswer.Decomposed d) masks = done (record {
+  masks = masks;
+  conflicts = d .conflicts;
+  stitches = d .stitches;
+  cost = d .cost;
+  steps = d .steps;
+  verdict = d .verdict;
+})
+decomposeAnswer (DecomposeAnswer.Refused q place) masks = refused (refusalNumber q) place
+
+-- the length written, of a text that was to be written
+abbrev pub writeAnswer : WriteAnswer → Outcome ℕ
+writeAnswer (WriteAnswer.Written n) = done n
+writeAnswer (WriteAnswer.Refused q place) = refused (refusalNumber q) place
+
+abbrev pub lengthOf : Outcome (List ℕ) → Outcome ℕ
+lengthOf (done text) = done (length text)
+lengthOf (refused number place) = refused number place
+
+-- A layer that was read is handed back whole: its settings, the number of its pieces, and 512 records that are zero after its pieces.
+-- A refusal hands back zeros.
+abbrev pub readAnswer : ReadAnswer → Outcome (Unit {0})
+readAnswer ReadAnswer.Read = done tt
+readAnswer (ReadAnswer.Refused q place) = refused (refusalNumber q) place
+
+abbrev pub wasRead : Outcome Layer → Outcome (Unit {0})
+wasRead (done l) = done tt
+wasRead (refused number place) = refused number place
+
+abbrev pub settingsRead : Outcome Layer → Settings
+settingsRead (done l) = l .settings
+settingsRead (refused number place) = noSettings
+
+abbrev pub piecesRead : Outcome Layer → List Piece
+piecesRead (done l) = l .pieces
+piecesRead (refused number place) = []
+
+pub record HandedBack (o : Outcome Layer) (r : LayerRead) : Type 0 where
+  pub answer : readAnswer (r .answer) ≡ wasRead o
+  pub settings : r .settings ≡ settingsRead o
+  pub count : r .count ≡ length (piecesRead o)
+  pub pieces : r .pieces ≡ piecesRead o ++ replicate (512 - length (piecesRead o)) noPiece

@@ -1,0 +1,68 @@
+-- What each public call comes to (RULES 11 and 12), refusals in the order of the questions, and what it leaves in lent memory.
+use mathlib.Core.Bool.{Bool}
+use mathlib.Core.List.{List, [], _∷_, _++_}
+use Prim.Native.Nat.{ℕ}
+use lib.Dec.{eqb, leb, ltb}
+use lib.ListN.{length, getD, drop}
+use Rattle.rules.specs.declared.layer.Settings.{Settings}
+use Rattle.rules.specs.declared.layer.Piece.{Piece}
+use Rattle.rules.specs.declared.layer.Edge.{Edge}
+use Rattle.rules.specs.declared.answers.Score.{Score}
+use Rattle.rules.specs.declared.refusal.Place.{Place}
+use Rattle.rules.specs.Settings.{settingsInRange}
+use Rattle.rules.specs.Edges.{edgeOf, graphOf}
+use Rattle.rules.specs.Score.{scoreOf}
+use Rattle.rules.specs.Decomposition.{Run, run}
+use Rattle.rules.specs.LayerText.{layerText}
+use Rattle.rules.specs.ResultText.{resultText}
+use Rattle.rules.specs.Questions.{Outcome, done, refused, ask, andThen, askEach, judgeLayer, Layer, readLayer}
+
+-- settings from their values
+unfoldable pub newSettings : ℕ → ℕ → ℕ → ℕ → ℕ → Outcome Settings
+newSettings masks spacing margin weight budget =
+    let s : Settings = record { masks = masks; spacing = spacing; margin = margin; weight = weight; budget = budget } in
+    andThen (ask (settingsInRange s) 4 Place.Nothing) λ _.
+    done s
+
+-- the edge between two pieces, which are judged as the layer of these two
+unfoldable pub edgeBetween : Settings → Piece → Piece → Outcome Edge
+edgeBetween s a b = andThen (judgeLayer s (a ∷ b ∷ [])) λ _. done (edgeOf s a b)
+
+-- the score of given masks
+unfoldable pub scoreMasks : Settings → List Piece → List ℕ → Outcome Score
+scoreMasks s ps masks =
+    andThen (judgeLayer s ps) λ _.
+    andThen (ask (eqb (length masks) (length ps)) 7 Place.Nothing) λ _.
+    andThen (askEach (λ i. ask (ltb (getD masks i 0) (s .masks)) 8 (Place.Piece i)) (length ps)) λ _.
+    done (scoreOf (s .weight) (graphOf s ps) masks (length ps))
+
+-- the whole decomposition, with a lent list for the masks
+unfoldable pub decomposeLayer : Settings → List Piece → List ℕ → Outcome Run
+decomposeLayer s ps masks =
+    andThen (judgeLayer s ps) λ _.
+    andThen (ask (eqb (length masks) (length ps)) 7 Place.Nothing) λ _.
+    done (run s ps)
+
+-- the lent masks after it
+abbrev pub masksAfter : Outcome Run → List ℕ → List ℕ
+masksAfter (done r) masks = r .masks
+masksAfter (refused number place) masks = masks
+
+-- the layer text, with a lent buffer for it
+unfoldable pub writeLayer : Settings → List Piece → List ℕ → Outcome (List ℕ)
+writeLayer s ps buffer =
+    andThen (ask (leb 32_768 (length buffer)) 1 Place.Nothing) λ _.
+    andThen (judgeLayer s ps) λ _.
+    done (layerText s ps)
+
+-- the result text of the run on the layer that a text states, with a lent buffer for it
+unfoldable pub decomposeText : List ℕ → List ℕ → Outcome (List ℕ)
+decomposeText text buffer =
+    andThen (ask (leb 4_096 (length buffer)) 1 Place.Nothing) λ _.
+    andThen (readLayer text) λ l.
+    done (resultText (run (l .settings) (l .pieces)))
+
+-- the lent buffer after a text was to be written: the text, then what stood there; a refusal leaves it as it was
+abbrev pub bufferAfter : Outcome (List ℕ) → List ℕ → List ℕ
+bufferAfter (done text) buffer = text ++ drop (length text) buffer
+bufferAfter (refused number place) buffer = buffer

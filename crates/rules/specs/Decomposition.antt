@@ -1,0 +1,93 @@
+-- Putting pieces back, and the whole decomposition (RULES 7 and 8).
+use mathlib.Core.Bool.{Bool, true, false, not, _&&_}
+use mathlib.Core.List.{List, [], _∷_}
+use Prim.Native.Nat.{ℕ}
+use lib.Dec.{eqb}
+use lib.ListN.{length, set, replicate}
+use Rattle.rules.specs.declared.layer.Settings.{Settings}
+use Rattle.rules.specs.declared.layer.Piece.{Piece}
+use Rattle.rules.specs.declared.answers.Verdict.{Verdict}
+use Rattle.rules.specs.Basics.{upTo, anyOf, find, foundOr}
+use Rattle.rules.specs.Edges.{Graph, inConflict, graphOf}
+use Rattle.rules.specs.Score.{maskOf, scoreOf}
+use Rattle.rules.specs.Peeling.{Removal, low, hanging, peel}
+use Rattle.rules.specs.Components.{components}
+use Rattle.rules.specs.Search.{localGraph, searchFrom}
+
+-- the masks ms of a component's places, put down at its vertices
+unfoldable pub putMasks : List ℕ → List ℕ → List ℕ → List ℕ
+putMasks [] ms masks = masks
+putMasks (v ∷ order) [] masks = masks
+putMasks (v ∷ order) (m ∷ ms) masks = putMasks order ms (set masks v m)
+
+-- What has been reached: the steps taken, whether a step was due beyond the budget, and the masks.
+pub record Reached : Type 0 where
+  pub steps : ℕ
+  pub stopped : Bool
+  pub masks : List ℕ
+
+-- The budget counts over all components together, so each search starts from the steps taken before it.
+unfoldable pub searchAll : ℕ → ℕ → ℕ → Graph → List (List ℕ) → Reached → Reached
+searchAll K weight budget g [] w = w
+searchAll K weight budget g (order ∷ orders) w =
+    let s = searchFrom K weight budget (localGraph g order) (length order) (w .steps) (w .stopped) in
+    searchAll K weight budget g orders (record { steps = s .steps; stopped = s .stopped; masks = putMasks order (s .incumbent) (w .masks) })
+
+-- the vertices that are there, and the masks
+pub record Placed : Type 0 where
+  pub there : List ℕ
+  pub masks : List ℕ
+
+-- the lowest mask that no conflicting vertex already there has
+abbrev pub freeMask : ℕ → Graph → Placed → ℕ → ℕ
+freeMask K g a v = foundOr 0 (find (λ m. not (anyOf (λ u. inConflict g v u && eqb (maskOf (a .masks) u) m) (a .there))) (upTo K))
+
+-- An (A) vertex takes the lowest free mask, a (B) vertex its stitch neighbour's.
+unfoldable pub putBack : ℕ → Graph → Removal → Placed → Placed
+putBack K g (low v) a = record { there = v ∷ a .there; masks = set (a .masks) v (freeMask K g a v) }
+putBack K g (hanging v u) a = record { there = v ∷ a .there; masks = set (a .masks) v (maskOf (a .masks) u) }
+
+-- Removed vertices return in reverse order: the one removed first is put back last.
+unfoldable pub putBackAll : ℕ → Graph → List Removal → Placed → Placed
+putBackAll K g [] a = a
+putBackAll K g (r ∷ rs) a = putBack K g r (putBackAll K g rs a)
+
+-- What is reached at a budget on the vertices vs, a rising list: the masks made of the incumbents then kept, removed vertices back, and the steps.
+-- The masks of other vertices stay as they were.
+unfoldable pub decompose : ℕ → ℕ → ℕ → Graph → List ℕ → List ℕ → Reached
+decompose K weight budget g vs masks =
+    let peeled = peel K g vs in
+    let searched = searchAll K weight budget g (components g (peeled .core)) (record { steps = 0; stopped = false; masks = masks }) in
+    let placed = putBackAll K g (peeled .removed) (record { there = peeled .core; masks = searched .masks }) in
+    record { steps = searched .steps; stopped = searched .stopped; masks = placed .masks }
+
+-- what is reached on a layer at the settings' budget
+abbrev pub reached : Settings → List Piece → Reached
+reached s ps = decompose (s .masks) (s .weight) (s .budget) (graphOf s ps) (upTo (length ps)) (replicate (length ps) 0)
+
+-- best when no step was due beyond the budget
+abbrev pub verdictOf : Bool → Verdict
+verdictOf false = Verdict.Best
+verdictOf true = Verdict.Open
+
+-- A run: the masks, their score, the steps and the verdict.
+pub record Run : Type 0 where
+  pub masks : List ℕ
+  pub conflicts : ℕ
+  pub stitches : ℕ
+  pub cost : ℕ
+  pub steps : ℕ
+  pub verdict : Verdict
+
+unfoldable pub run : Settings → List Piece → Run
+run s ps =
+    let r = reached s ps in
+    let score = scoreOf (s .weight) (graphOf s ps) (r .masks) (length ps) in
+    record {
+      masks = r .masks;
+      conflicts = score .conflicts;
+      stitches = score .stitches;
+      cost = score .cost;
+      steps = r .steps;
+      verdict = verdictOf (r .stopped);
+    }

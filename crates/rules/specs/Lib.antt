@@ -1,0 +1,15 @@
+pub mod Basics
+pub mod Settings
+pub mod Edges
+pub mod Score
+pub mod Peeling
+pub mod Components
+pub mod Search
+pub mod Decomposition
+pub mod LayerText
+pub mod ResultText
+pub mod Questions
+pub mod Calls
+pub mod Loader
+pub mod Answers
+pub mod Demands

@@ -1,0 +1,39 @@
+-- Score (RULES 3). Masks are a list: the mask of vertex v stands at place v.
+use mathlib.Core.Bool.{Bool, not, cond}
+use mathlib.Core.List.{List}
+use Prim.Native.Nat.{ℕ, _+_, _*_}
+use lib.Dec.{eqb}
+use lib.ListN.{getD}
+use Rattle.rules.specs.declared.answers.Score.{Score}
+use Rattle.rules.specs.Basics.{given, sumPairs}
+use Rattle.rules.specs.Edges.{Graph}
+
+abbrev pub maskOf : List ℕ → ℕ → ℕ
+maskOf masks v = getD masks v 0
+
+abbrev pub sameMask : List ℕ → ℕ → ℕ → Bool
+sameMask masks u v = eqb (maskOf masks u) (maskOf masks v)
+
+-- the conflict edges whose ends have the same mask
+unfoldable pub conflictsOf : Graph → List ℕ → ℕ → ℕ
+conflictsOf g masks n = sumPairs (λ u v. given (sameMask masks u v) (g .conflicts u v)) n
+
+-- the stitch edges whose ends have different masks
+unfoldable pub stitchesOf : Graph → List ℕ → ℕ → ℕ
+stitchesOf g masks n = sumPairs (λ u v. given (not (sameMask masks u v)) (g .stitches u v)) n
+
+-- the cost, with a conflict's weight
+abbrev pub costOf : ℕ → ℕ → ℕ → ℕ
+costOf weight conflicts stitches = weight * conflicts + stitches
+
+-- what masks of the vertices 0, 1, .., n - 1 score
+unfoldable pub scoreOf : ℕ → Graph → List ℕ → ℕ → Score
+scoreOf weight g masks n = record {
+  conflicts = conflictsOf g masks n;
+  stitches = stitchesOf g masks n;
+  cost = costOf weight (conflictsOf g masks n) (stitchesOf g masks n);
+}
+
+-- what the edges between u on mask x and v on mask y cost
+unfoldable pub pairCost : ℕ → Graph → ℕ → ℕ → ℕ → ℕ → ℕ
+pairCost weight g u v x y = cond (eqb x y) (weight * g .conflicts u v) (g .stitches u v)

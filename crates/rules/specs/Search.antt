@@ -1,0 +1,99 @@
+-- First assignment and branch-and-bound search (RULES 6), in one component. Its vertices stand in rising order, and the search sees only their places in it,
+-- 0, 1, ... Masks so far are a list p: the mask of place i stands at i, and the next place is length p. `add p m` is the cost that mask m adds there.
+use mathlib.Core.Bool.{Bool, true, false, not, cond}
+use mathlib.Core.List.{List, [], _∷_, _++_}
+use Prim.Native.Nat.{ℕ, zero, suc, _+_, _-_, min}
+use lib.Dec.{eqb, ltb}
+use lib.ListN.{length, getD}
+use Rattle.rules.specs.Basics.{given, sumTo, upTo, occurs}
+use Rattle.rules.specs.Edges.{Graph}
+use Rattle.rules.specs.Score.{pairCost}
+
+-- the graph of a component's places
+abbrev pub localGraph : Graph → List ℕ → Graph
+localGraph g order = record {
+  conflicts = λ i j. g .conflicts (getD order i 0) (getD order j 0);
+  stitches = λ i j. g .stitches (getD order i 0) (getD order j 0);
+}
+
+-- what mask m adds at the next place, against the earlier places
+unfoldable pub added : ℕ → Graph → List ℕ → ℕ → ℕ
+added weight g p m = sumTo (λ i. pairCost weight g i (length p) (getD p i 0) m) (length p)
+
+-- the cost of p, itself c, with the masks q after it
+unfoldable pub totalAfter : (List ℕ → ℕ → ℕ) → List ℕ → ℕ → List ℕ → ℕ
+totalAfter add p c [] = c
+totalAfter add p c (m ∷ q) = totalAfter add (p ++ (m ∷ [])) (c + add p m) q
+
+abbrev pub total : (List ℕ → ℕ → ℕ) → List ℕ → ℕ
+total add p = totalAfter add [] 0 p
+
+-- the number below k at which f is least, the lowest on a tie
+unfoldable pub cheapest : (ℕ → ℕ) → ℕ → ℕ
+cheapest f zero = zero
+cheapest f (suc k) = let b = cheapest f k in cond (ltb (f k) (f b)) k b
+
+-- First assignment: each of the places left takes the mask that adds least.
+unfoldable pub firstAfter : (List ℕ → ℕ → ℕ) → ℕ → ℕ → List ℕ → List ℕ
+firstAfter add K zero p = p
+firstAfter add K (suc left) p = firstAfter add K left (p ++ (cheapest (add p) K ∷ []))
+
+-- how many different masks are in p
+unfoldable pub different : List ℕ → ℕ
+different [] = 0
+different (m ∷ p) = given (not (occurs m p)) 1 + different p
+
+-- the masks tried after p, in rising order: 0 to the lesser of the number of different masks in p and K - 1
+unfoldable pub candidates : ℕ → List ℕ → List ℕ
+candidates K p = upTo (suc (min (different p) (K - 1)))
+
+-- Where a search stands: the steps taken, whether a step was due when the budget was used up, and the incumbent (document 01: the holder) with its cost.
+pub record State : Type 0 where
+  pub steps : ℕ
+  pub stopped : Bool
+  pub cost : ℕ
+  pub incumbent : List ℕ
+
+abbrev pub state : ℕ → Bool → ℕ → List ℕ → State
+state n b c h = record { steps = n; stopped = b; cost = c; incumbent = h }
+
+-- a step is due and the budget is used up
+abbrev pub stop : State → State
+stop s = state (s .steps) true (s .cost) (s .incumbent)
+
+-- one step more is taken
+abbrev pub step : State → State
+step s = state (suc (s .steps)) (s .stopped) (s .cost) (s .incumbent)
+
+-- past the last place p, of cost c, is the new incumbent
+abbrev pub hold : List ℕ → ℕ → State → State
+hold p c s = state (s .steps) (s .stopped) c p
+
+-- what goes on from a place: the masks so far, their cost, the state
+abbrev pub Next : Type 0
+Next = List ℕ → ℕ → State → State
+
+module _ (add : List ℕ → ℕ → ℕ) (budget : ℕ) where
+  -- Tries the masks ms after p, where p costs c. Each mask tried is one step. A mask whose cost stays below the incumbent's hands over to the next place.
+  unfoldable pub tryMasks : Next → List ℕ → List ℕ → ℕ → State → State
+  tryMasks next [] p c s = s
+  tryMasks next (m ∷ ms) p c s = elim (ltb (s .steps) budget) [
+    | false ↦ stop s
+    | true ↦ elim (ltb (c + add p m) (s .cost)) [
+      | true ↦ tryMasks next ms p c (next (p ++ (m ∷ [])) (c + add p m) (step s))
+      | false ↦ tryMasks next ms p c (step s)
+    ]
+  ]
+
+module _ (add : List ℕ → ℕ → ℕ) (cands : List ℕ → List ℕ) (budget : ℕ) where
+  -- The search (document 01: the walk) over the places left after p, where p costs c. A place hands over to its masks.
+  unfoldable pub search : ℕ → Next
+  search zero p c s = hold p c s
+  search (suc left) p c s = tryMasks add budget (search left) (cands p) p c s
+
+-- The search of one component of k places, from its first assignment on, with the steps taken before it.
+abbrev pub searchFrom : ℕ → ℕ → ℕ → Graph → ℕ → ℕ → Bool → State
+searchFrom K weight budget g k steps stopped =
+    let add = added weight g in
+    let first = firstAfter add K k [] in
+    search add (candidates K) budget k [] 0 (state steps stopped (total add first) first)
