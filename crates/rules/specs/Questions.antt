@@ -33,10 +33,7 @@ andThen (refused number place) next = refused number place
 -- the question at 0, at 1, .., at n - 1
 unfoldable pub askEach : (ℕ → Outcome (Unit {0})) → ℕ → Outcome (Unit {0})
 askEach question zero = done tt
-askEach question (suc n) = elim (askEach question n) [
-  | done _ ↦ question n
-  | refused number place ↦ refused number place
-]
+askEach question (suc n) = andThen (askEach question n) λ _. question n
 
 -- ---- Lent records
 

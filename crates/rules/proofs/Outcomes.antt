@@ -1,0 +1,62 @@
+-- Laws of the words that questions are put together with: what an outcome refuses, and what it accepts. Each goes by the cases of an outcome.
+-- Assumes nothing.
+use mathlib.Core.Bool.{Bool, true, false}
+use mathlib.Core.Logic.{⊎-elim}
+use mathlib.Core.Path.{_≡_, refl, subst, subst⁻¹, subst₂}
+use Prim.Native.Nat.{ℕ, zero, suc, _<_}
+use native.Mathlib.Nat.{eq-or-lt-of-le, le-of-suc-le-suc}
+use native.Mathlib.Omega.{arith}
+use Rattle.rules.specs.declared.refusal.Place.{Place}
+use Rattle.rules.specs.Questions.{Outcome, done, refused, ask, andThen, askEach}
+
+-- what the outcome accepts is one of P, and what it refuses is one of R
+pub data Ends {A : Type 0} (P : A → Type 0) (R : ℕ → Place → Type 0) : Outcome A → Type 0 where
+  accepts : {a : A} → P a → Ends P R (done a)
+  refuses : {number : ℕ} {place : Place} → R number place → Ends P R (refused number place)
+
+-- what holds below n and at n holds below the next number
+below-suc : {P : ℕ → Type 0} {n : ℕ} → ((i : ℕ) → i < n → P i) → P n → (i : ℕ) → i < suc n → P i
+below-suc {P} f p i h = ⊎-elim (λ e. subst⁻¹ P e p) (f i) (eq-or-lt-of-le (le-of-suc-le-suc h))
+
+-- the second part begins where the first accepts
+pub ends-then : {A B : Type 0} {P : A → Type 0} {Q : B → Type 0} {R : ℕ → Place → Type 0} {o : Outcome A} {next : A → Outcome B}
+    → Ends P R o → ((a : A) → P a → Ends Q R (next a)) → Ends Q R (andThen o next)
+ends-then (accepts p) n = n _ p
+ends-then (refuses r) n = refuses r
+
+-- whatever follows from what is accepted, and from what is refused
+pub ends-map : {A : Type 0} {P Q : A → Type 0} {R : ℕ → Place → Type 0} {o : Outcome A} → ((a : A) → P a → Q a) → Ends P R o → Ends Q R o
+ends-map f (accepts p) = accepts (f _ p)
+ends-map f (refuses r) = refuses r
+
+pub ends-refused : {A : Type 0} {P : A → Type 0} {R S : ℕ → Place → Type 0} {o : Outcome A}
+    → ((number : ℕ) (place : Place) → R number place → S number place) → Ends P R o → Ends P S o
+ends-refused f (accepts p) = accepts p
+ends-refused f (refuses r) = refuses (f _ _ r)
+
+pub accepted : {A : Type 0} {P : A → Type 0} {R : ℕ → Place → Type 0} {o : Outcome A} {a : A} → Ends P R o → o ≡ done a → P a
+accepted {P} (accepts p) e = subst P (cc) p
+accepted (refuses r) e = let z : _≡_ {A = ℕ} 0 1 = cc in absurd (omega arith)
+
+pub rejected : {A : Type 0} {P : A → Type 0} {R : ℕ → Place → Type 0} {o : Outcome A} {number : ℕ} {place : Place} → Ends P R o → o ≡ refused number place → R number place
+rejected (accepts p) e = let z : _≡_ {A = ℕ} 0 1 = cc in absurd (omega arith)
+rejected {R} (refuses r) e = subst₂ R (cc) (cc) r
+
+-- a question that passes says yes
+pub ends-ask : {R : ℕ → Place → Type 0} (b : Bool) (number : ℕ) (place : Place) → R number place → Ends (λ _. b ≡ true) R (ask b number place)
+ends-ask true number place r = accepts refl
+ends-ask false number place r = refuses r
+
+-- a question at each number below n: all pass, or the first that does not decides
+pub ends-each : {P : ℕ → Type 0} {R : ℕ → Place → Type 0} (question : ℕ → Outcome (Unit {0})) (n : ℕ)
+    → ((i : ℕ) → i < n → Ends (λ _. P i) R (question i)) → Ends (λ _. (i : ℕ) → i < n → P i) R (askEach question n)
+unfolding askEach
+ends-each question zero e = accepts (λ i h. absurd (omega arith))
+ends-each {P} {R} question (suc n) e =
+    ends-then (ends-each question n (λ i h. e i (omega arith))) λ _ f.
+    ends-map (λ _ p. below-suc f p) (e n (omega arith))
+
+pub each-passes : (question : ℕ → Outcome (Unit {0})) (n : ℕ) → ((i : ℕ) → i < n → question i ≡ done tt) → askEach question n ≡ done tt
+unfolding askEach
+each-passes question zero h = refl
+each-passes question (suc n) h = rw (each-passes question n (λ i l. h i (omega arith))) (h n (omega arith))

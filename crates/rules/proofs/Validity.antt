@@ -1,0 +1,119 @@
+-- For every input the questions give exactly one of two ends. A layer lent as records is accepted, and is then sound, or it is refused with a number and a
+-- place of the rules; a layer text is read as a sound layer, or refused likewise. A layer is valid exactly when it is sound, and exactly when no question
+-- refuses it. Each law goes through the questions in their order. Assumes nothing.
+use mathlib.Core.Bool.{Bool, true, false, not, _||_, true≢false}
+use mathlib.Core.List.{List, [], _∷_}
+use mathlib.Core.Logic.{_↔_, ⊎-elim}
+use mathlib.Core.Option.{Option, none, some}
+use mathlib.Core.Path.{_≡_, refl, ap, subst}
+use Prim.Native.Nat.{ℕ, zero, suc, _+_, _≤_, _<_}
+use native.Mathlib.Nat.{le-refl, eq-or-lt-of-le}
+use native.Mathlib.Omega.{arith}
+use borrow.Author.Tests.{not-true}
+use lib.ListN.{length, getD}
+use Rattle.rules.specs.declared.layer.Settings.{Settings}
+use Rattle.rules.specs.declared.layer.Piece.{Piece}
+use Rattle.rules.specs.declared.refusal.Place.{Place}
+use Rattle.rules.specs.Basics.{upFrom, upTo, anyOf}
+use Rattle.rules.specs.Settings.{settingsInRange, countInRange, pieceInRange, hasArea, noPiece, pieceAt}
+use Rattle.rules.specs.Edges.{overlapping}
+use Rattle.rules.specs.Questions.{Outcome, done, refused, ask, andThen, askEach, judgePiece, judgeOverlaps, judgeLayer, Valid}
+use Rattle.rules.proofs.Outcomes.{Ends, ends-then, ends-map, ends-ask, ends-each, accepted, each-passes}
+
+-- ---- What is true of a layer that passes
+
+pub record Sound (s : Settings) (ps : List Piece) : Type 0 where
+  pub settings : settingsInRange s ≡ true
+  pub count : countInRange (length ps) ≡ true
+  pub ranges : (i : ℕ) → i < length ps → pieceInRange (pieceAt ps i) ≡ true
+  pub areas : (i : ℕ) → i < length ps → hasArea (pieceAt ps i) ≡ true
+  pub apart : (i j : ℕ) → i < j → j < length ps → overlapping (pieceAt ps i) (pieceAt ps j) ≡ false
+
+-- ---- The refusals of n lent records, and of a text: number and place
+
+pub data OfRecords (n : ℕ) : ℕ → Place → Type 0 where
+  settings-or-count : OfRecords n 4 Place.Nothing
+  range : {i : ℕ} → i < n → OfRecords n 4 (Place.Piece i)
+  area : {i : ℕ} → i < n → OfRecords n 5 (Place.Piece i)
+  overlap : {i : ℕ} → i < n → OfRecords n 6 (Place.Piece i)
+
+-- ---- Tests over the numbers below a bound
+
+or-left : (a b : Bool) → (a || b) ≡ false → a ≡ false
+or-left true b e = e
+or-left false b e = refl
+
+or-right : (a b : Bool) → (a || b) ≡ false → b ≡ false
+or-right true b e = absurd (true≢false e)
+or-right false b e = e
+
+-- no number from m on, k of them, passes the test
+none-from : (f : ℕ → Bool) (m k : ℕ) → anyOf f (upFrom m k) ≡ false → (i : ℕ) → m ≤ i → i < m + k → f i ≡ false
+unfolding anyOf upFrom
+none-from f m zero e i l h = absurd (omega arith)
+none-from f m (suc k) e i l h =
+    ⊎-elim
+    (λ q. subst (λ (j : ℕ). f j ≡ false) q (or-left (f m) (anyOf f (upFrom (suc m) k)) e))
+    (λ q. none-from f (suc m) k (or-right (f m) (anyOf f (upFrom (suc m) k)) e) i q (omega arith))
+    (eq-or-lt-of-le l)
+
+from-none : (f : ℕ → Bool) (m k : ℕ) → ((i : ℕ) → m ≤ i → i < m + k → f i ≡ false) → anyOf f (upFrom m k) ≡ false
+unfolding anyOf upFrom
+from-none f m zero e = refl
+from-none f m (suc k) e = rw (e m (le-refl m) (omega arith)) (from-none f (suc m) k (λ i l h. e i (omega arith) (omega arith)))
+
+-- ---- Records
+
+-- 4 and 5 for a piece at a place, with any refusals R that allow them there
+pub judged-piece : {R : ℕ → Place → Type 0} (place : Place) (p : Piece) → R 4 place → R 5 place
+    → Ends (λ _. (pieceInRange p ≡ true) × (hasArea p ≡ true)) R (judgePiece place p)
+unfolding judgePiece
+judged-piece place p r4 r5 =
+    ends-then (ends-ask (pieceInRange p) 4 place r4) λ _ r.
+    ends-map (λ _ a. (r, a)) (ends-ask (hasArea p) 5 place r5)
+
+-- 6, with any refusals R that allow it for each piece
+pub judged-overlaps : {R : ℕ → Place → Type 0} (ps : List Piece) → ((j : ℕ) → j < length ps → R 6 (Place.Piece j))
+    → Ends (λ _. (i j : ℕ) → i < j → j < length ps → overlapping (pieceAt ps i) (pieceAt ps j) ≡ false) R (judgeOverlaps ps)
+unfolding judgeOverlaps
+judged-overlaps ps r =
+    ends-map (λ _ d i j l h. none-from _ 0 j (not-true _ (d j h)) i (omega arith) (omega arith))
+    (ends-each _ (length ps) (λ j h. ends-ask (not (anyOf (λ i. overlapping (pieceAt ps i) (pieceAt ps j)) (upTo j))) 6 _ (r j h)))
+
+pub judged : (s : Settings) (ps : List Piece) → Ends (λ _. Sound s ps) (OfRecords (length ps)) (judgeLayer s ps)
+unfolding judgeLayer
+judged s ps =
+    ends-then (ends-ask (settingsInRange s) 4 _ settings-or-count) λ _ a.
+    ends-then (ends-ask (countInRange (length ps)) 4 _ settings-or-count) λ _ b.
+    ends-then (ends-each _ (length ps) (λ i h. judged-piece (Place.Piece i) (pieceAt ps i) (range h) (area h))) λ _ c.
+    ends-map
+    (λ _ d. record { settings = a; count = b; ranges = λ i h. c i h .0; areas = λ i h. c i h .1; apart = d })
+    (judged-overlaps ps (λ j h. overlap h))
+
+pub sound-valid : (s : Settings) (ps : List Piece) → Sound s ps → Valid s ps
+unfolding judgeLayer judgeOverlaps judgePiece
+sound-valid s ps f =
+    rw (
+      f .settings,
+      f .count,
+      each-passes (λ i. judgePiece (Place.Piece i) (pieceAt ps i)) (length ps) (λ i h. rw (f .ranges i h, f .areas i h)),
+    )
+    (each-passes _ (length ps) (λ j h. rw (from-none _ 0 j (λ i l k. f .apart i j (omega arith) h))))
+
+pub valid-sound : (s : Settings) (ps : List Piece) → Valid s ps → Sound s ps
+valid-sound s ps v = accepted (judged s ps) v
+
+-- a layer is valid exactly when it is sound
+pub valid-exactly : (s : Settings) (ps : List Piece) → Valid s ps ↔ Sound s ps
+valid-exactly s ps = (valid-sound s ps, sound-valid s ps)
+
+-- a layer is valid exactly when no question refuses it
+pub valid-unrefused : (s : Settings) (ps : List Piece) → Valid s ps ↔ ((number : ℕ) (place : Place) → judgeLayer s ps ≡ refused number place → ⊥)
+valid-unrefused s ps = (λ v number place e. never v e, λ n. go (judgeLayer s ps) refl n)
+  where
+    never : {number : ℕ} {place : Place} → Valid s ps → judgeLayer s ps ≡ refused number place → ⊥
+    never v e = let z : _≡_ {A = ℕ} 0 1 = cc in omega arith
+
+    go : (o : Outcome (Unit {0})) → judgeLayer s ps ≡ o → ((number : ℕ) (place : Place) → judgeLayer s ps ≡ refused number place → ⊥) → judgeLayer s ps ≡ done tt
+    go (done _) e n = e
+    go (refused number place) e n = absurd (n number place e)
