@@ -12,7 +12,7 @@ use Rattle.rules.specs.Edges.{overlapX, overlapY, gapX, gapY, squaredGap
 use Rattle.rules.specs.Score.{conflictsOf, stitchesOf, scoreOf, pairCost}
 use Rattle.rules.specs.Peeling.{mayGo, peelFor}
 use Rattle.rules.specs.Components.{reachFor, componentsFor}
-use Rattle.rules.specs.Search.{added, totalAfter, cheapest, firstAfter, different, candidates, tryMasks, search}
+use Rattle.rules.specs.Search.{added, totalAfter, cheapest, firstAfter, different, candidates, tryMasks, searchPlaces}
 use Rattle.rules.specs.Decomposition.{putMasks, searchAll, putBack, putBackAll, decompose, Run, run}
 
 -- the settings of the cases, with K masks and a budget of B steps
@@ -74,7 +74,7 @@ pub record Cases : Type 0 where
   pub contact-9 : toOwn 11 ≡ Edge.None
 
 pub cases : Cases
-unfolding sumTo sumPairs upFrom anyOf countOf keep find overlapX overlapY gapX gapY squaredGap conflictEdge contact stitchEdge edgeOf conflictsOf stitchesOf scoreOf pairCost mayGo peelFor reachFor componentsFor added totalAfter cheapest firstAfter different candidates tryMasks search putMasks searchAll putBack putBackAll decompose run
+unfolding sumTo sumPairs upFrom anyOf countOf keep find overlapX overlapY gapX gapY squaredGap conflictEdge contact stitchEdge edgeOf conflictsOf stitchesOf scoreOf pairCost mayGo peelFor reachFor componentsFor added totalAfter cheapest firstAfter different candidates tryMasks searchPlaces putMasks searchAll putBack putBackAll decompose run
 cases = record {
   row-2 = refl;
   row-2-at-5 = refl;

@@ -15,11 +15,11 @@ use Rattle.rules.specs.Edges.{overlapX, overlapY, gapX, gapY, squaredGap
 use Rattle.rules.specs.Score.{conflictsOf, stitchesOf, scoreOf, pairCost}
 use Rattle.rules.specs.Peeling.{mayGo, peelFor}
 use Rattle.rules.specs.Components.{reachFor, componentsFor}
-use Rattle.rules.specs.Search.{added, totalAfter, cheapest, firstAfter, different, candidates, tryMasks, search}
-use Rattle.rules.specs.Decomposition.{putMasks, searchAll, putBack, putBackAll, decompose, Run, run}
+use Rattle.rules.specs.Search.{added, totalAfter, cheapest, firstAfter, different, candidates, tryMasks, searchPlaces}
+use Rattle.rules.specs.Decomposition.{putMasks, searchAll, putBack, putBackAll, decompose, run}
 use Rattle.rules.specs.LayerText.{ascii, digitsFor, commaList, pieceLines, layerText, firstLine, afterKey, allDigits, isNumeral, valueAfter, partsOf, numbersOf, lineNumbers}
 use Rattle.rules.specs.ResultText.{maskLines, resultText}
-use Rattle.rules.specs.Questions.{Outcome, done, refused, askEach, judgePiece, judgeOverlaps, judgeLayer, Layer, readLine, readNumber, readPieces, readLayer}
+use Rattle.rules.specs.Questions.{Outcome, done, refused, askEach, judgePiece, judgeOverlaps, judgeLayer, readLine, readNumber, readPieces, readLayer}
 use Rattle.rules.specs.Calls.{scoreMasks, decomposeLayer, writeLayer, decomposeText, bufferAfter}
 use Rattle.rules.specs.Loader.{loaderNumber, printed}
 use Rattle.rules.proofs.Cases.{at, piece, result, row, halves}
@@ -48,7 +48,7 @@ pub record NearRules : Type 0 where
   pub far : edgeOf (at 2 100) (piece 0 0 0 20 20) (piece 1 65556 0 65576 20) ≡ Edge.None
 
 pub nearRules : NearRules
-unfolding sumTo sumPairs upFrom anyOf countOf keep find overlapX overlapY gapX gapY squaredGap conflictEdge contact stitchEdge edgeOf conflictsOf stitchesOf scoreOf pairCost mayGo peelFor reachFor componentsFor added totalAfter cheapest firstAfter different candidates tryMasks search putMasks searchAll putBack putBackAll decompose run
+unfolding sumTo sumPairs upFrom anyOf countOf keep find overlapX overlapY gapX gapY squaredGap conflictEdge contact stitchEdge edgeOf conflictsOf stitchesOf scoreOf pairCost mayGo peelFor reachFor componentsFor added totalAfter cheapest firstAfter different candidates tryMasks searchPlaces putMasks searchAll putBack putBackAll decompose run
 nearRules = record { one-conflict = refl; two-stitches = refl; one-step = refl; no-step = refl; far = refl }
 
 -- ---- Texts and refusals
@@ -87,7 +87,7 @@ pub record Texts : Type 0 where
   pub mask-2-of-2 : scoreMasks (at 2 100) row (0 ∷ 1 ∷ 2 ∷ []) ≡ refused 8 (Place.Piece 2)
 
 pub texts : Texts
-unfolding sumTo sumPairs upFrom anyOf countOf keep find settingsInRange pieceInRange hasArea overlapX overlapY gapX gapY squaredGap conflictEdge contact stitchEdge overlapping conflictsOf stitchesOf scoreOf pairCost mayGo peelFor reachFor componentsFor added totalAfter cheapest firstAfter different candidates tryMasks search putMasks searchAll putBack putBackAll decompose run ascii digitsFor commaList pieceLines layerText firstLine afterKey allDigits isNumeral valueAfter partsOf numbersOf lineNumbers maskLines resultText askEach judgePiece judgeOverlaps judgeLayer readLine readNumber readPieces readLayer scoreMasks decomposeLayer writeLayer decomposeText
+unfolding sumTo sumPairs upFrom anyOf countOf keep find settingsInRange pieceInRange hasArea overlapX overlapY gapX gapY squaredGap conflictEdge contact stitchEdge overlapping conflictsOf stitchesOf scoreOf pairCost mayGo peelFor reachFor componentsFor added totalAfter cheapest firstAfter different candidates tryMasks searchPlaces putMasks searchAll putBack putBackAll decompose run ascii digitsFor commaList pieceLines layerText firstLine afterKey allDigits isNumeral valueAfter partsOf numbersOf lineNumbers maskLines resultText askEach judgePiece judgeOverlaps judgeLayer readLine readNumber readPieces readLayer scoreMasks decomposeLayer writeLayer decomposeText
 texts = record {
   reads = refl;
   writes = refl;

@@ -1,7 +1,11 @@
 -- What is proved of the definitions themselves.
 pub mod Cases
 pub mod Examples
+pub mod Tests
+pub mod Lists
 pub mod Outcomes
 pub mod Validity
 pub mod Reading
 pub mod Calls
+pub mod Ranges
+pub mod Edges

@@ -1,21 +1,20 @@
 -- Every layer text is read as a sound layer, which is valid, or refused with a number and a place of the rules. The law goes through the lines in their order.
 -- Assumes nothing.
-use mathlib.Core.Bool.{Bool, true, false, _&&_}
+use mathlib.Core.Bool.{Bool, true}
 use mathlib.Core.List.{List, [], _∷_}
 use mathlib.Core.Option.{Option, none, some}
-use mathlib.Core.Path.{_≡_, refl, ap, subst⁻¹}
-use Prim.Native.Nat.{ℕ, zero, suc, _+_, _≤_, _<_}
+use mathlib.Core.Path.{_≡_, refl, ap}
+use Prim.Native.Nat.{ℕ, zero, suc, _≤_, _<_}
 use Prim.Native.String.{String}
 use native.Mathlib.Omega.{arith}
 use lib.Dec.{leb}
 use lib.ListN.{length, getD}
-use Rattle.rules.specs.declared.layer.Settings.{Settings}
 use Rattle.rules.specs.declared.layer.Piece.{Piece}
 use Rattle.rules.specs.declared.refusal.Place.{Place}
-use Rattle.rules.specs.Settings.{settingsInRange, masksInRange, spacingInRange, marginInRange, weightInRange, budgetInRange, countInRange, pieceInRange, hasArea, noPiece, pieceAt}
+use Rattle.rules.specs.Settings.{settingsInRange, masksInRange, spacingInRange, marginInRange, weightInRange, budgetInRange, countInRange, pieceInRange, hasArea, pieceAt}
 use Rattle.rules.specs.LayerText.{FirstLine, ended, unended, firstLine, lineNumbers}
-use Rattle.rules.specs.Questions.{Outcome, done, refused, ask, andThen, judgePiece, judgeOverlaps, Valid, Layer, LineRead, readLine, NumberRead, readNumber, pieceFrom, PiecesRead, readPieces, isEmpty, readLayer}
-use Rattle.rules.proofs.Outcomes.{Ends, accepts, refuses, ends-then, ends-map, ends-ask, accepted}
+use Rattle.rules.specs.Questions.{Outcome, done, refused, Valid, Layer, LineRead, readLine, readNumber, pieceFrom, readPieces, isEmpty, readLayer}
+use Rattle.rules.proofs.Outcomes.{Ends, accepts, refuses, ends-then, ends-ask, accepted}
 use Rattle.rules.proofs.Validity.{Sound, sound-valid, judged-piece, judged-overlaps}
 
 -- the refusals of a text: number and place

@@ -1,23 +1,22 @@
 -- For every input the questions give exactly one of two ends. A layer lent as records is accepted, and is then sound, or it is refused with a number and a
 -- place of the rules; a layer text is read as a sound layer, or refused likewise. A layer is valid exactly when it is sound, and exactly when no question
 -- refuses it. Each law goes through the questions in their order. Assumes nothing.
-use mathlib.Core.Bool.{Bool, true, false, not, _||_, true≢false}
-use mathlib.Core.List.{List, [], _∷_}
-use mathlib.Core.Logic.{_↔_, ⊎-elim}
-use mathlib.Core.Option.{Option, none, some}
-use mathlib.Core.Path.{_≡_, refl, ap, subst}
-use Prim.Native.Nat.{ℕ, zero, suc, _+_, _≤_, _<_}
-use native.Mathlib.Nat.{le-refl, eq-or-lt-of-le}
+use mathlib.Core.Bool.{true, false, not}
+use mathlib.Core.List.{List}
+use mathlib.Core.Logic.{_↔_}
+use mathlib.Core.Path.{_≡_, refl}
+use Prim.Native.Nat.{ℕ, _<_}
 use native.Mathlib.Omega.{arith}
 use borrow.Author.Tests.{not-true}
-use lib.ListN.{length, getD}
+use lib.ListN.{length}
 use Rattle.rules.specs.declared.layer.Settings.{Settings}
 use Rattle.rules.specs.declared.layer.Piece.{Piece}
 use Rattle.rules.specs.declared.refusal.Place.{Place}
-use Rattle.rules.specs.Basics.{upFrom, upTo, anyOf}
-use Rattle.rules.specs.Settings.{settingsInRange, countInRange, pieceInRange, hasArea, noPiece, pieceAt}
+use Rattle.rules.specs.Basics.{upTo, anyOf}
+use Rattle.rules.specs.Settings.{settingsInRange, countInRange, pieceInRange, hasArea, pieceAt}
 use Rattle.rules.specs.Edges.{overlapping}
-use Rattle.rules.specs.Questions.{Outcome, done, refused, ask, andThen, askEach, judgePiece, judgeOverlaps, judgeLayer, Valid}
+use Rattle.rules.specs.Questions.{Outcome, done, refused, judgePiece, judgeOverlaps, judgeLayer, Valid}
+use Rattle.rules.proofs.Lists.{any-out, out-any, in-upTo}
 use Rattle.rules.proofs.Outcomes.{Ends, ends-then, ends-map, ends-ask, ends-each, accepted, each-passes}
 
 -- ---- What is true of a layer that passes
@@ -37,31 +36,6 @@ pub data OfRecords (n : ℕ) : ℕ → Place → Type 0 where
   area : {i : ℕ} → i < n → OfRecords n 5 (Place.Piece i)
   overlap : {i : ℕ} → i < n → OfRecords n 6 (Place.Piece i)
 
--- ---- Tests over the numbers below a bound
-
-or-left : (a b : Bool) → (a || b) ≡ false → a ≡ false
-or-left true b e = e
-or-left false b e = refl
-
-or-right : (a b : Bool) → (a || b) ≡ false → b ≡ false
-or-right true b e = absurd (true≢false e)
-or-right false b e = e
-
--- no number from m on, k of them, passes the test
-none-from : (f : ℕ → Bool) (m k : ℕ) → anyOf f (upFrom m k) ≡ false → (i : ℕ) → m ≤ i → i < m + k → f i ≡ false
-unfolding anyOf upFrom
-none-from f m zero e i l h = absurd (omega arith)
-none-from f m (suc k) e i l h =
-    ⊎-elim
-    (λ q. subst (λ (j : ℕ). f j ≡ false) q (or-left (f m) (anyOf f (upFrom (suc m) k)) e))
-    (λ q. none-from f (suc m) k (or-right (f m) (anyOf f (upFrom (suc m) k)) e) i q (omega arith))
-    (eq-or-lt-of-le l)
-
-from-none : (f : ℕ → Bool) (m k : ℕ) → ((i : ℕ) → m ≤ i → i < m + k → f i ≡ false) → anyOf f (upFrom m k) ≡ false
-unfolding anyOf upFrom
-from-none f m zero e = refl
-from-none f m (suc k) e = rw (e m (le-refl m) (omega arith)) (from-none f (suc m) k (λ i l h. e i (omega arith) (omega arith)))
-
 -- ---- Records
 
 -- 4 and 5 for a piece at a place, with any refusals R that allow them there
@@ -77,7 +51,7 @@ pub judged-overlaps : {R : ℕ → Place → Type 0} (ps : List Piece) → ((j :
     → Ends (λ _. (i j : ℕ) → i < j → j < length ps → overlapping (pieceAt ps i) (pieceAt ps j) ≡ false) R (judgeOverlaps ps)
 unfolding judgeOverlaps
 judged-overlaps ps r =
-    ends-map (λ _ d i j l h. none-from _ 0 j (not-true _ (d j h)) i (omega arith) (omega arith))
+    ends-map (λ _ d i j l h. any-out _ (upTo j) (not-true _ (d j h)) i (in-upTo j i .1 l))
     (ends-each _ (length ps) (λ j h. ends-ask (not (anyOf (λ i. overlapping (pieceAt ps i) (pieceAt ps j)) (upTo j))) 6 _ (r j h)))
 
 pub judged : (s : Settings) (ps : List Piece) → Ends (λ _. Sound s ps) (OfRecords (length ps)) (judgeLayer s ps)
@@ -98,7 +72,7 @@ sound-valid s ps f =
       f .count,
       each-passes (λ i. judgePiece (Place.Piece i) (pieceAt ps i)) (length ps) (λ i h. rw (f .ranges i h, f .areas i h)),
     )
-    (each-passes _ (length ps) (λ j h. rw (from-none _ 0 j (λ i l k. f .apart i j (omega arith) h))))
+    (each-passes _ (length ps) (λ j h. rw (out-any _ (upTo j) (λ i m. f .apart i j (in-upTo j i .0 m) h))))
 
 pub valid-sound : (s : Settings) (ps : List Piece) → Valid s ps → Sound s ps
 valid-sound s ps v = accepted (judged s ps) v

@@ -1,5 +1,5 @@
 -- What each case of an answer says (RULES 12): document 01's number and place of a refusal, or the values.
-use mathlib.Core.List.{List, [], _∷_, _++_}
+use mathlib.Core.List.{List, [], _++_}
 use mathlib.Core.Path.{_≡_}
 use Prim.Native.Nat.{ℕ, _-_}
 use lib.ListN.{length, replicate}

@@ -1,5 +1,4 @@
 -- What each public call comes to (RULES 11 and 12), refusals in the order of the questions, and what it leaves in lent memory.
-use mathlib.Core.Bool.{Bool}
 use mathlib.Core.List.{List, [], _∷_, _++_}
 use Prim.Native.Nat.{ℕ}
 use lib.Dec.{eqb, leb, ltb}
@@ -15,7 +14,7 @@ use Rattle.rules.specs.Score.{scoreOf}
 use Rattle.rules.specs.Decomposition.{Run, run}
 use Rattle.rules.specs.LayerText.{layerText}
 use Rattle.rules.specs.ResultText.{resultText}
-use Rattle.rules.specs.Questions.{Outcome, done, refused, ask, andThen, askEach, judgeLayer, Layer, readLayer}
+use Rattle.rules.specs.Questions.{Outcome, done, refused, ask, andThen, askEach, judgeLayer, readLayer}
 
 -- settings from their values
 unfoldable pub newSettings : ℕ → ℕ → ℕ → ℕ → ℕ → Outcome Settings

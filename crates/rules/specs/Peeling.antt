@@ -1,5 +1,5 @@
 -- Peeling (RULES 4). `there` is the rising list of the vertices still there. Degrees count neighbours.
-use mathlib.Core.Bool.{Bool, true, false, _&&_, _||_, cond}
+use mathlib.Core.Bool.{Bool, _&&_, _||_, cond}
 use mathlib.Core.List.{List, [], _∷_}
 use mathlib.Core.Option.{none, some}
 use Prim.Native.Nat.{ℕ, zero, suc}

@@ -5,7 +5,7 @@ use mathlib.Core.Option.{none, some}
 use mathlib.Core.Path.{_≡_}
 use Prim.Native.Nat.{ℕ, zero, suc, _+_}
 use Prim.Native.String.{String}
-use lib.Dec.{leb, eqb}
+use lib.Dec.{leb}
 use lib.ListN.{length, getD}
 use Rattle.rules.specs.declared.layer.Settings.{Settings}
 use Rattle.rules.specs.declared.layer.Piece.{Piece}
@@ -13,7 +13,7 @@ use Rattle.rules.specs.declared.refusal.Place.{Place}
 use Rattle.rules.specs.Basics.{upTo, anyOf}
 use Rattle.rules.specs.Settings.{settingsInRange, masksInRange, spacingInRange, marginInRange, weightInRange, budgetInRange, countInRange, pieceInRange, hasArea, pieceAt}
 use Rattle.rules.specs.Edges.{overlapping}
-use Rattle.rules.specs.LayerText.{FirstLine, ended, unended, firstLine, lineNumbers}
+use Rattle.rules.specs.LayerText.{ended, unended, firstLine, lineNumbers}
 
 -- what a call comes to: a value, or a refusal with its number and its place
 pub data Outcome (A : Type 0) : Type 0 where

@@ -3,7 +3,7 @@
 use mathlib.Core.Bool.{Bool, true, false, not, cond}
 use mathlib.Core.List.{List, [], _∷_, _++_}
 use Prim.Native.Nat.{ℕ, zero, suc, _+_, _-_, min}
-use lib.Dec.{eqb, ltb}
+use lib.Dec.{ltb}
 use lib.ListN.{length, getD}
 use Rattle.rules.specs.Basics.{given, sumTo, upTo, occurs}
 use Rattle.rules.specs.Edges.{Graph}
@@ -87,13 +87,13 @@ module _ (add : List ℕ → ℕ → ℕ) (budget : ℕ) where
 
 module _ (add : List ℕ → ℕ → ℕ) (cands : List ℕ → List ℕ) (budget : ℕ) where
   -- The search (document 01: the walk) over the places left after p, where p costs c. A place hands over to its masks.
-  unfoldable pub search : ℕ → Next
-  search zero p c s = hold p c s
-  search (suc left) p c s = tryMasks add budget (search left) (cands p) p c s
+  unfoldable pub searchPlaces : ℕ → Next
+  searchPlaces zero p c s = hold p c s
+  searchPlaces (suc left) p c s = tryMasks add budget (searchPlaces left) (cands p) p c s
 
 -- The search of one component of k places, from its first assignment on, with the steps taken before it.
 abbrev pub searchFrom : ℕ → ℕ → ℕ → Graph → ℕ → ℕ → Bool → State
 searchFrom K weight budget g k steps stopped =
     let add = added weight g in
     let first = firstAfter add K k [] in
-    search add (candidates K) budget k [] 0 (state steps stopped (total add first) first)
+    searchPlaces add (candidates K) budget k [] 0 (state steps stopped (total add first) first)

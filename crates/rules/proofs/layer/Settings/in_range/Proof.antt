@@ -2,7 +2,7 @@
 use borrow.Author.Needs.{needs}
 use borrow.Author.Tests.{not-true, not-false}
 use mathlib.Core.Path.{_≡_, sym, _∙_}
-use mathlib.Core.Bool.{Bool, true, false, not, _&&_}
+use mathlib.Core.Bool.{Bool, true, false, not}
 use Rattle.rules.specs.Settings.{settingsInRange}
 use Rattle.rules.proofs.layer.Settings.in_range.Statement.{statement}
 use Rattle.rules.proofs.layer.Settings.in_range.Tie as tie

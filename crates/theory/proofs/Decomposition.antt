@@ -1,0 +1,119 @@
+-- The whole decomposition on a list of vertices. Putting back adds no cost to the core's, the core's cost is the sum of its components', and that is the
+-- incumbents' costs together (`decomposed`). A rival costs at least what it costs on the core, which splits into the same components, so searches
+-- that were not stopped are cheapest on the whole list (`decompose-cheapest`). Two budgets have the same core and the same components, so they compare as
+-- their searches do (`decompose-larger`).
+use mathlib.Core.Bool.{true, false}
+use mathlib.Core.List.{List, List·Memᴰ}
+use mathlib.Core.Logic.{inl}
+use mathlib.Core.Path.{_≡_, refl, ap, _∙_}
+use Prim.Native.Nat.{ℕ, _≤_, _<_}
+use native.Mathlib.Omega.{arith}
+use lib.ListN.{length}
+use Rattle.rules.specs.Edges.{Graph}
+use Rattle.rules.specs.Score.{maskOf}
+use Rattle.rules.specs.Peeling.{peel}
+use Rattle.rules.specs.Components.{components}
+use Rattle.rules.specs.Decomposition.{Reached, putBackAll, searchAll, decompose}
+use Rattle.rules.proofs.Edges.{Undirected, joined-sym}
+use Rattle.rules.proofs.Lists.{_∈_}
+use Rattle.rules.proofs.Tests.{clash}
+use Rattle.theory.proofs.Cost.{costIn, cost-part, cost-apart}
+use Rattle.theory.proofs.Peeling.{parts}
+use Rattle.theory.proofs.PuttingBack.{Ready, returned}
+use Rattle.theory.proofs.Components.{Cut, components-cut, component-in, cut-component, cut-sum, sumParts}
+use Rattle.theory.proofs.Reach.{Symmetric}
+use Rattle.theory.proofs.SearchAll.{costsOf, Settled, settled, all-cheapest, all-within, all-spent, Compared, all-larger}
+
+-- nothing is searched yet
+abbrev pub unsearched : List ℕ → Reached
+unsearched masks = record { steps = 0; stopped = false; masks = masks }
+
+abbrev pub core : ℕ → Graph → List ℕ → List ℕ
+core K g vs = peel K g vs .core
+
+-- what the incumbents of all components cost together
+abbrev pub incumbentsCost : ℕ → ℕ → ℕ → Graph → List ℕ → List ℕ → ℕ
+incumbentsCost K W budget g vs masks = costsOf K W g budget (components g (core K g vs)) (unsearched masks)
+
+-- What the decomposition of the vertices vs reaches.
+pub record Decomposed (K W : ℕ) (budget : ℕ) (g : Graph) (vs masks : List ℕ) (r : Reached) : Type 0 where
+  pub size : length (r .masks) ≡ length masks
+  pub outside : (u : ℕ) → (u ∈ vs → ⊥) → maskOf (r .masks) u ≡ maskOf masks u
+  pub below : (u : ℕ) → u ∈ vs → maskOf (r .masks) u < K
+  pub cost : costIn W g (maskOf (r .masks)) vs ≡ incumbentsCost K W budget g vs masks
+
+module _ (K W : ℕ) (pos : 0 < K) {g : Graph} (undirected : Undirected g) {vs masks : List ℕ} (ready : Ready g masks vs) where
+  symmetric : Symmetric g
+  symmetric = joined-sym undirected
+
+  cut : Cut g (core K g vs) (components g (core K g vs))
+  cut = components-cut g symmetric (core K g vs)
+
+  -- the core costs what its components cost together
+  core-cost : (a : ℕ → ℕ) → costIn W g a (core K g vs) ≡ sumParts (costIn W g a) (components g (core K g vs))
+  unfolding costIn
+  core-cost a = cut-sum (costIn W g a) refl (cost-apart W undirected a) cut
+
+  module _ (budget : ℕ) where
+    searched : Settled K W g budget (core K g vs) (components g (core K g vs)) (unsearched masks) (searchAll K W budget g (components g (core K g vs)) (unsearched masks))
+    searched =
+        let p = parts K g (length vs) vs in
+        settled K W pos undirected budget cut (p .distinct (ready .distinct)) (unsearched masks) (λ u m. ready .placed u (p .core-in u m))
+
+    pub decomposed : Decomposed K W budget g vs masks (decompose K W budget g vs masks)
+    unfolding decompose
+    decomposed =
+        let s = searched in
+        let p = parts K g (length vs) vs in
+        let r = returned K undirected (searchAll K W budget g (components g (core K g vs)) (unsearched masks) .masks) (length vs) vs
+        (record { distinct = ready .distinct; placed = λ v m. rw (s .size) (ready .placed v m); loopless = ready .loopless }) in
+        record {
+          size = r .size ∙ s .size;
+          outside = λ u n. r .outside u n ∙ s .outside u (λ m. n (p .core-in u m));
+          below = r .below (s .below);
+          cost = r .cost W ∙ core-cost _ ∙ s .cost;
+        }
+
+    -- a search that was not stopped leaves no cheaper masks
+    pub decompose-cheapest : decompose K W budget g vs masks .stopped ≡ false → (a : ℕ → ℕ) → ((u : ℕ) → u ∈ vs → a u < K)
+        → costIn W g (maskOf (decompose K W budget g vs masks .masks)) vs ≤ costIn W g a vs
+    unfolding decompose
+    decompose-cheapest e a l =
+        let p = parts K g (length vs) vs in
+        let cs = components g (core K g vs) in
+        let inside : (c : List ℕ) → List·Memᴰ c cs → (u : ℕ) → u ∈ c → a u < K
+        = λ c m u i. l u (p .core-in u (component-in (cut-component symmetric cut m) i)) in
+        let part : costIn W g a (core K g vs) ≤ costIn W g a vs = rw (p .kept) (cost-part W undirected a _ vs) in
+        omega (arith, decomposed .cost, all-cheapest K W pos undirected budget cs (unsearched masks) e a inside, core-cost a)
+
+    -- steps stay within the budget, and are the budget when stopped
+    pub decompose-within : decompose K W budget g vs masks .steps ≤ budget
+    unfolding decompose
+    decompose-within = all-within K W g budget (components g (core K g vs)) (unsearched masks) (omega arith)
+
+    pub decompose-spent : decompose K W budget g vs masks .stopped ≡ true → decompose K W budget g vs masks .steps ≡ budget
+    unfolding decompose
+    decompose-spent = all-spent K W g budget (components g (core K g vs)) (unsearched masks) (omega arith) (λ e. clash e refl)
+
+  -- a larger budget
+  module _ {b₁ b₂ : ℕ} (le : b₁ ≤ b₂) where
+    compared : let cs = components g (core K g vs) in
+        Compared K W g b₁ b₂ cs (unsearched masks) (unsearched masks) (searchAll K W b₁ g cs (unsearched masks)) (searchAll K W b₂ g cs (unsearched masks))
+    compared = all-larger K W g le (components g (core K g vs)) (unsearched masks) (unsearched masks) (inl (refl, refl))
+
+    -- it costs no more
+    pub larger-no-dearer : costIn W g (maskOf (decompose K W b₂ g vs masks .masks)) vs ≤ costIn W g (maskOf (decompose K W b₁ g vs masks .masks)) vs
+    larger-no-dearer = omega (arith, decomposed b₁ .cost, decomposed b₂ .cost, compared .noDearer)
+
+    -- it does the same where the smaller one was not used up
+    pub larger-same : decompose K W b₁ g vs masks .stopped ≡ false → decompose K W b₂ g vs masks ≡ decompose K W b₁ g vs masks
+    unfolding decompose
+    larger-same e =
+        ap (λ (s : Reached). finished s) (compared .same e refl)
+      where
+        finished : Reached → Reached
+        finished s = record {
+          steps = s .steps;
+          stopped = s .stopped;
+          masks = putBackAll K g (peel K g vs .removed) (record { there = core K g vs; masks = s .masks }) .masks;
+        }

@@ -1,0 +1,61 @@
+-- Properties that every number of a list has, by recursion on the list, and lists mapped number by number. Assumes nothing.
+use mathlib.Core.List.{List, [], _∷_, _++_, map}
+use mathlib.Core.Path.{_≡_, refl}
+use Prim.Native.Nat.{ℕ, zero, suc, _+_, _<_}
+use native.Mathlib.Nat.{not-suc-le-zero, le-of-suc-le-suc}
+use native.Mathlib.Omega.{arith}
+use lib.ListN.{length, getD}
+use Rattle.rules.specs.Basics.{upFrom}
+use Rattle.rules.proofs.Lists.{_∈_, none-in, each-cons, here, later}
+
+-- every number of the list has the property
+abbrev pub Each : (ℕ → Type 0) → List ℕ → Type 0
+Each P [] = Unit {0}
+Each P (x ∷ xs) = P x × Each P xs
+
+-- what holds of every number holds of those in the list
+pub each-all : {P : ℕ → Type 0} → ((m : ℕ) → P m) → (xs : List ℕ) → Each P xs
+each-all f [] = tt
+each-all f (x ∷ xs) = (f x, each-all f xs)
+
+-- a property that follows from another
+pub each-imp : {P Q : ℕ → Type 0} → ((m : ℕ) → P m → Q m) → (xs : List ℕ) → Each P xs → Each Q xs
+each-imp f [] e = tt
+each-imp f (x ∷ xs) e = (f x (e .0), each-imp f xs (e .1))
+
+-- one number more
+pub each-snoc : (P : ℕ → Type 0) (xs : List ℕ) (m : ℕ) → Each P xs → P m → Each P (xs ++ (m ∷ []))
+each-snoc P [] m e h = (h, tt)
+each-snoc P (x ∷ xs) m e h = (e .0, each-snoc P xs m (e .1) h)
+
+-- from the numbers of the list to its places
+pub each-at : (P : ℕ → Type 0) (xs : List ℕ) → Each P xs → (i : ℕ) → i < length xs → P (getD xs i 0)
+each-at P [] e i h = absurd (not-suc-le-zero h)
+each-at P (x ∷ xs) e zero h = e .0
+each-at P (x ∷ xs) e (suc i) h = each-at P xs (e .1) i (le-of-suc-le-suc h)
+
+-- and back
+pub each-of : (P : ℕ → Type 0) (xs : List ℕ) → ((i : ℕ) → i < length xs → P (getD xs i 0)) → Each P xs
+each-of P [] f = tt
+each-of P (x ∷ xs) f = (f zero (omega arith), each-of P xs (λ i h. f (suc i) (omega arith)))
+
+-- a run of numbers has what all numbers below its end have
+pub each-run : {P : ℕ → Type 0} (a k : ℕ) → ((m : ℕ) → m < a + k → P m) → Each P (upFrom a k)
+unfolding upFrom
+each-run a zero f = tt
+each-run a (suc k) f = (f a (omega arith), each-run (suc a) k (λ m h. f m (omega arith)))
+
+-- the mapped list, by its places
+pub getD-map : (f : ℕ → ℕ) (p : List ℕ) (i : ℕ) → i < length p → getD (map f p) i 0 ≡ f (getD p i 0)
+getD-map f [] i h = absurd (not-suc-le-zero h)
+getD-map f (x ∷ p) zero h = refl
+getD-map f (x ∷ p) (suc i) h = getD-map f p i (le-of-suc-le-suc h)
+
+-- what holds of each image holds of the image of each member, and the other way round
+pub each-image : (P : ℕ → Type 0) (a : ℕ → ℕ) (xs : List ℕ) → Each P (map a xs) → (u : ℕ) → u ∈ xs → P (a u)
+each-image P a [] h u m = none-in m
+each-image P a (x ∷ xs) h u m = each-cons {Q = λ u. P (a u)} (h .0) (each-image P a xs (h .1)) u m
+
+pub image-each : (P : ℕ → Type 0) (a : ℕ → ℕ) (xs : List ℕ) → ((u : ℕ) → u ∈ xs → P (a u)) → Each P (map a xs)
+image-each P a [] h = tt
+image-each P a (x ∷ xs) h = (h x (here refl), image-each P a xs (λ u m. h u (later m)))

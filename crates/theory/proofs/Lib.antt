@@ -1,0 +1,15 @@
+-- Laws of the rules, by subject.
+pub mod Each
+pub mod Sums
+pub mod Cost
+pub mod Score
+pub mod Peeling
+pub mod PuttingBack
+pub mod Reach
+pub mod Components
+pub mod Search
+pub mod Budget
+pub mod Renaming
+pub mod SearchAll
+pub mod Decomposition
+pub mod Demand3

@@ -1,0 +1,137 @@
+-- The searches of all components, one after the other, with the steps carried along. A component's masks are put down at its own vertices, which no other
+-- component has, so the masks reached cost what the incumbents cost together (`settled`). Searches that were not stopped leave no cheaper
+-- masks (`all-cheapest`), because each component's search does. Two budgets are compared one component after the other (`all-larger`): as long
+-- as the smaller one is not used up both do the same, and from then on the smaller one's components keep their first assignments.
+use mathlib.Core.Bool.{true, false, not}
+use mathlib.Core.List.{List, [], _∷_, map, List·Memᴰ, List·Memᴰ·head as here, List·Memᴰ·tail as later}
+use mathlib.Core.Logic.{⊎-elim}
+use mathlib.Core.Path.{_≡_, refl, sym, ap, ap₂, _∙_}
+use Prim.Native.Nat.{ℕ, _+_, _≤_, _<_}
+use native.Mathlib.Nat.{le-refl, add-le-add}
+use lib.ListN.{length, length-map}
+use borrow.Author.Tests.{not-true}
+use Rattle.rules.specs.Basics.{occurs}
+use Rattle.rules.specs.Edges.{Graph}
+use Rattle.rules.specs.Score.{maskOf}
+use Rattle.rules.specs.Search.{State, localGraph, searchFrom}
+use Rattle.rules.specs.Decomposition.{Reached, putMasks, searchAll}
+use Rattle.rules.proofs.Edges.{Undirected}
+use Rattle.rules.proofs.Tests.{not-before}
+use Rattle.theory.proofs.Each.{each-image, image-each}
+use Rattle.rules.proofs.Lists.{_∈_, none-in, occurs-in, occurs-out, in-or-out, in-keep, keep-in, Distinct, distinct-keep}
+use Rattle.rules.proofs.Tests.{clash}
+use Rattle.theory.proofs.Cost.{costIn, cost-same}
+use Rattle.theory.proofs.Score.{total-cost, put-length, put-other, put-own, put-cost}
+use Rattle.theory.proofs.Components.{component-in, component-distinct, Cut, end, part, sumParts}
+use Rattle.theory.proofs.Search.{search-sticks}
+use Rattle.theory.proofs.Budget.{Abreast, from-larger, search-within, search-spent}
+use Rattle.theory.proofs.Renaming.{from-sound, from-cheapest}
+
+reached-path : {x y : Reached} → x .steps ≡ y .steps → x .stopped ≡ y .stopped → x .masks ≡ y .masks → x ≡ y
+reached-path p q r = λ i. record { steps = p i; stopped = q i; masks = r i }
+
+module _ (K W : ℕ) (g : Graph) (budget : ℕ) where
+  -- what the search of one component finds, and what is reached with it
+  abbrev pub found : List ℕ → Reached → State
+  found order w = searchFrom K W budget (localGraph g order) (length order) (w .steps) (w .stopped)
+
+  abbrev pub after : List ℕ → Reached → Reached
+  after order w = record { steps = found order w .steps; stopped = found order w .stopped; masks = putMasks order (found order w .incumbent) (w .masks) }
+
+  -- the incumbents' costs together
+  unfoldable pub costsOf : List (List ℕ) → Reached → ℕ
+  costsOf [] w = 0
+  costsOf (order ∷ orders) w = found order w .cost + costsOf orders (after order w)
+
+  -- what was stopped stays so
+  pub all-sticks : (orders : List (List ℕ)) (w : Reached) → w .stopped ≡ true → searchAll K W budget g orders w .stopped ≡ true
+  unfolding searchAll
+  all-sticks [] w e = e
+  all-sticks (order ∷ orders) w e = all-sticks orders (after order w) (search-sticks _ _ budget (length order) [] 0 _ e)
+
+  -- steps stay within the budget, and are the budget when stopped
+  pub all-within : (orders : List (List ℕ)) (w : Reached) → w .steps ≤ budget → searchAll K W budget g orders w .steps ≤ budget
+  unfolding searchAll
+  all-within [] w h = h
+  all-within (order ∷ orders) w h = all-within orders (after order w) (search-within _ _ budget (length order) [] 0 _ h)
+
+  pub all-spent : (orders : List (List ℕ)) (w : Reached) → w .steps ≤ budget → (w .stopped ≡ true → w .steps ≡ budget)
+      → searchAll K W budget g orders w .stopped ≡ true → searchAll K W budget g orders w .steps ≡ budget
+  unfolding searchAll
+  all-spent [] w h s = s
+  all-spent (order ∷ orders) w h s =
+      all-spent orders (after order w) (search-within _ _ budget (length order) [] 0 _ h) (search-spent _ _ budget (length order) [] 0 _ h s)
+
+-- What is reached on the vertices xs, cut into the components cs.
+pub record Settled (K W : ℕ) (g : Graph) (budget : ℕ) (xs : List ℕ) (cs : List (List ℕ)) (w r : Reached) : Type 0 where
+  pub size : length (r .masks) ≡ length (w .masks)
+  pub outside : (u : ℕ) → (u ∈ xs → ⊥) → maskOf (r .masks) u ≡ maskOf (w .masks) u
+  pub below : (u : ℕ) → u ∈ xs → maskOf (r .masks) u < K
+  pub cost : sumParts (costIn W g (maskOf (r .masks))) cs ≡ costsOf K W g budget cs w
+
+module _ (K W : ℕ) (pos : 0 < K) {g : Graph} (undirected : Undirected g) (budget : ℕ) where
+  pub settled : {xs : List ℕ} {cs : List (List ℕ)} → Cut g xs cs → Distinct xs → (w : Reached) → ((u : ℕ) → u ∈ xs → u < length (w .masks))
+      → Settled K W g budget xs cs w (searchAll K W budget g cs w)
+  unfolding searchAll sumParts costsOf
+  settled end d w h = record { size = refl; outside = λ u n. refl; below = λ u m. none-in m; cost = refl }
+  settled (part {v} {after = vs} {c} {cs} comp i cut) d w h =
+      let s = found K W g budget c w in
+      let p = s .incumbent in
+      let sound = from-sound K W (localGraph g c) budget (length c) (w .steps) (w .stopped) pos in
+      let own = put-own c p (w .masks) (component-distinct comp d) (λ u m. h u (component-in comp m)) (sound .size) in
+      let ih = settled cut (distinct-keep _ (v ∷ vs) d) (after K W g budget c w)
+      (λ u m. rw (put-length c p (w .masks)) (h u (keep-in _ (v ∷ vs) m .0))) in
+      let kept : (u : ℕ) → u ∈ c → maskOf (searchAll K W budget g cs (after K W g budget c w) .masks) u ≡ maskOf (putMasks c p (w .masks)) u
+      = λ u m. ih .outside u (λ n. clash (occurs-in u c .1 m) (not-true (occurs u c) (keep-in _ (v ∷ vs) n .1))) in
+      record {
+        size = ih .size ∙ put-length c p (w .masks);
+        outside = λ u n. ih .outside u (λ m. n (keep-in _ (v ∷ vs) m .0)) ∙ put-other c p (w .masks) u (λ m. n (component-in comp m));
+        below = λ u m. ⊎-elim
+            (λ k. rw (kept u k) (each-image (λ x. x < K) (maskOf (putMasks c p (w .masks))) c (rw own (sound .below)) u k))
+            (λ n. ih .below u (in-keep _ m (ap not (occurs-out u c .1 n))))
+            (in-or-out u c);
+        cost = ap₂ _+_
+            (cost-same W g _ _ c kept ∙ put-cost W undirected c p (w .masks) (component-distinct comp d) (λ u m. h u (component-in comp m)) (sound .size) ∙ sym (sound .cost))
+            (ih .cost);
+      }
+
+  -- searches that were not stopped leave no cheaper masks
+  pub all-cheapest : (cs : List (List ℕ)) (w : Reached) → searchAll K W budget g cs w .stopped ≡ false
+      → (a : ℕ → ℕ) → ((c : List ℕ) → List·Memᴰ c cs → (u : ℕ) → u ∈ c → a u < K) → costsOf K W g budget cs w ≤ sumParts (costIn W g a) cs
+  unfolding searchAll sumParts costsOf
+  all-cheapest [] w e a l = le-refl 0
+  all-cheapest (c ∷ cs) w e a l =
+      let s = found K W g budget c w in
+      let ran : s .stopped ≡ false = not-before (all-sticks K W g budget cs (after K W g budget c w)) e in
+      add-le-add
+      (rw (← total-cost W undirected a c)
+      (from-cheapest K W (localGraph g c) budget (length c) (w .steps) (w .stopped) ran (map a c) (length-map c a) (image-each (λ x. x < K) a c (l c (here refl)))))
+      (all-cheapest cs (after K W g budget c w) e a (λ d m. l d (later m)))
+
+-- What a larger budget does against a smaller one, from what both have reached.
+pub record Compared (K W : ℕ) (g : Graph) (b₁ b₂ : ℕ) (cs : List (List ℕ)) (w₁ w₂ r₁ r₂ : Reached) : Type 0 where
+  pub meters : Abreast b₁ (r₁ .steps) (r₁ .stopped) (r₂ .steps) (r₂ .stopped)
+  pub noDearer : costsOf K W g b₂ cs w₂ ≤ costsOf K W g b₁ cs w₁
+  pub same : r₁ .stopped ≡ false → w₂ .masks ≡ w₁ .masks → r₂ ≡ r₁
+
+module _ (K W : ℕ) (g : Graph) {b₁ b₂ : ℕ} (le : b₁ ≤ b₂) where
+  pub all-larger : (cs : List (List ℕ)) (w₁ w₂ : Reached) → Abreast b₁ (w₁ .steps) (w₁ .stopped) (w₂ .steps) (w₂ .stopped)
+      → Compared K W g b₁ b₂ cs w₁ w₂ (searchAll K W b₁ g cs w₁) (searchAll K W b₂ g cs w₂)
+  unfolding searchAll costsOf
+  all-larger [] w₁ w₂ m = record {
+    meters = m;
+    noDearer = le-refl 0;
+    same = λ e q. ⊎-elim (λ p. reached-path (sym (p .0)) (sym (p .1)) q) (λ h. clash (h .over) e) m;
+  }
+  all-larger (c ∷ cs) w₁ w₂ m =
+      let s₁ = found K W g b₁ c w₁ in
+      let s₂ = found K W g b₂ c w₂ in
+      let one = from-larger K W (localGraph g c) le (length c) m in
+      let ih = all-larger cs (after K W g b₁ c w₁) (after K W g b₂ c w₂) (one .meters) in
+      record {
+        meters = ih .meters;
+        noDearer = add-le-add (one .noDearer) (ih .noDearer);
+        same = λ e q.
+            let ran : s₁ .stopped ≡ false = not-before (all-sticks K W g b₁ cs (after K W g b₁ c w₁)) e in
+            ih .same e (ap₂ (λ (s : State) (masks : List ℕ). putMasks c (s .incumbent) masks) (one .same ran) q);
+      }
