@@ -2,12 +2,13 @@
 -- it speaks of (`keep-in`), and one back (`in-keep`), so that later proofs look at members and never at a list's recursion. Then lists without
 -- repetition, rising lists, and counting: a list whose members take K different values under some function has at least K members.
 use mathlib.Core.Bool.{Bool, true, false, not, _&&_, _||_, or-true, or-assoc, or-false as or-false-right}
-use mathlib.Core.List.{List, [], _∷_, _++_, List·Memᴰ, List·Memᴰ·not-nil, Memᴰ·append-right}
+use mathlib.Core.List.{List, [], _∷_, _++_, map, List·Memᴰ, List·Memᴰ·not-nil, Memᴰ·append-right}
 pub use mathlib.Core.List.{List·Memᴰ·head as here, List·Memᴰ·tail as later, List·Memᴰ·cases-cons as here-or-later, Memᴰ·cast as equal-in}
 use mathlib.Core.Logic.{_↔_, _⊎_, inl, inr, ⊎-elim}
 use mathlib.Core.Option.{Option, none, some}
 use mathlib.Core.Path.{_≡_, refl, sym, ap, subst, _∙_}
 use Prim.Native.Nat.{ℕ, zero, suc, _+_, _≤_, _<_}
+use native.Mathlib.Numerals.{add-one}
 use native.Mathlib.Omega.{arith}
 use lib.Dec.{eqb}
 use lib.ListN.{length, getD}
@@ -46,6 +47,11 @@ any-out f xs e u m = by-test (f u) (λ p. clash (in-any f m p) e) (λ p. p)
 
 pub out-any : (f : ℕ → Bool) (xs : List ℕ) → ((u : ℕ) → u ∈ xs → f u ≡ false) → anyOf f xs ≡ false
 out-any f xs h = by-test (anyOf f xs) (λ e. let r = any-in f xs e in clash (r .2) (h (r .0) (r .1))) (λ e. e)
+
+pub any-same : (f g : ℕ → Bool) (xs : List ℕ) → ((u : ℕ) → u ∈ xs → f u ≡ g u) → anyOf f xs ≡ anyOf g xs
+unfolding anyOf
+any-same f g [] h = refl
+any-same f g (x ∷ xs) h = rw (h x (here refl), any-same f g xs (λ u m. h u (later m)))
 
 -- whether one of the list passes, with one more
 pub any-snoc : (f : ℕ → Bool) (p : List ℕ) (m : ℕ) → anyOf f (p ++ (m ∷ [])) ≡ (anyOf f p || f m)
@@ -353,3 +359,23 @@ getD-upFrom m (suc k) (suc i) h = getD-upFrom (suc m) k i (omega arith) ∙ omeg
 
 pub getD-upTo : (n i : ℕ) → i < n → getD (upTo n) i 0 ≡ i
 getD-upTo n i h = getD-upFrom 0 n i h ∙ omega arith
+
+-- one number more
+pub any-next : (f : ℕ → Bool) (n : ℕ) → anyOf f (upTo (n + 1)) ≡ (anyOf f (upTo n) || f n)
+any-next f n = rw (add-one n, upTo-snoc n) (any-snoc f (upTo n) n)
+
+pub any-found : (f : ℕ → Bool) (n : ℕ) {i : ℕ} → i < n → f i ≡ true → anyOf f (upTo n) ≡ true
+any-found f n {i} l e = in-any f (in-upTo n i .1 l) e
+
+pub any-ext : {f g : ℕ → Bool} (n : ℕ) → ((i : ℕ) → i < n → f i ≡ g i) → anyOf f (upTo n) ≡ anyOf g (upTo n)
+any-ext {f} {g} n h = any-same f g (upTo n) (λ u m. h u (in-upTo n u .0 m))
+
+-- what stands at a place of the mapped numbers
+mapped-from : {A : Type 0} (f : ℕ → A) (d : A) (m k i : ℕ) → i < k → getD (map f (upFrom m k)) i d ≡ f (m + i)
+unfolding upFrom
+mapped-from f d m zero i h = absurd (omega arith)
+mapped-from f d m (suc k) zero h = ap f (let e : m ≡ m + 0 = omega arith in e)
+mapped-from f d m (suc k) (suc i) h = mapped-from f d (suc m) k i (omega arith) ∙ ap f (let e : suc m + i ≡ m + suc i = omega arith in e)
+
+pub mapped-upTo : {A : Type 0} (f : ℕ → A) (d : A) (n i : ℕ) → i < n → getD (map f (upTo n)) i d ≡ f i
+mapped-upTo f d n i h = mapped-from f d 0 n i h ∙ ap f (let e : 0 + i ≡ i = omega arith in e)

@@ -3,8 +3,10 @@
 use mathlib.Core.Bool.{Bool, true, false}
 use mathlib.Core.Logic.{⊎-elim}
 use mathlib.Core.Path.{_≡_, refl, subst, subst⁻¹, subst₂}
-use Prim.Native.Nat.{ℕ, zero, suc, _<_}
+use Prim.Native.Nat.{ℕ, zero, suc, _+_, _<_}
+use native.Mathlib.Decide.{ℕ-discrete}
 use native.Mathlib.Nat.{eq-or-lt-of-le, le-of-suc-le-suc}
+use native.Mathlib.Numerals.{add-one}
 use native.Mathlib.Omega.{arith}
 use Rattle.rules.specs.declared.refusal.Place.{Place}
 use Rattle.rules.specs.Questions.{Outcome, done, refused, ask, andThen, askEach}
@@ -60,3 +62,25 @@ pub each-passes : (question : ℕ → Outcome (Unit {0})) (n : ℕ) → ((i : �
 unfolding askEach
 each-passes question zero h = refl
 each-passes question (suc n) h = rw (each-passes question n (λ i l. h i (omega arith))) (h n (omega arith))
+
+-- ---- As a loop asks them: one more question, the first that refuses, questions that agree
+
+pub each-next : (question : ℕ → Outcome (Unit {0})) (n : ℕ) → askEach question n ≡ done tt → question n ≡ done tt → askEach question (n + 1) ≡ done tt
+unfolding askEach
+each-next question n e f = rw (add-one n, e) f
+
+pub each-ext : {f g : ℕ → Outcome (Unit {0})} (n : ℕ) → ((i : ℕ) → i < n → f i ≡ g i) → askEach f n ≡ askEach g n
+unfolding askEach
+each-ext zero h = refl
+each-ext (suc n) h = rw (each-ext n (λ i l. h i (omega arith)), h n (omega arith))
+
+-- all before i pass and i is refused, so that decides
+pub each-refused : (question : ℕ → Outcome (Unit {0})) (n : ℕ) {i number : ℕ} {place : Place}
+    → i < n → askEach question i ≡ done tt → question i ≡ refused number place → askEach question n ≡ refused number place
+unfolding askEach
+each-refused question zero l e r = absurd (omega arith)
+each-refused question (suc n) {i} {number} {place} l e r = go (ℕ-discrete i n) (λ m. each-refused question n m e r)
+  where
+    go : Dec (i ≡ n) → (i < n → askEach question n ≡ refused number place) → andThen (askEach question n) (λ _. question n) ≡ refused number place
+    go (yes p) ih = rw (← p, e) r
+    go (no q) ih = rw (ih (omega arith))

@@ -1,18 +1,9 @@
 -- `Settings::in_range`: the tests in the table's order; the first that fails decides. Assumes nothing.
 use borrow.Author.Needs.{needs}
-use borrow.Author.Tests.{not-true, not-false}
-use mathlib.Core.Path.{_≡_, sym, _∙_}
-use mathlib.Core.Bool.{Bool, true, false, not}
 use Rattle.rules.specs.Settings.{settingsInRange}
+use Rattle.rules.proofs.Tests.{passed, failed}
 use Rattle.rules.proofs.layer.Settings.in_range.Statement.{statement}
 use Rattle.rules.proofs.layer.Settings.in_range.Tie as tie
-
--- what a test that was passed, or failed, says of the range that it stands for
-passed : (r b : Bool) → r ≡ b → not r ≡ false → b ≡ true
-passed r b e h = sym e ∙ not-false r h
-
-failed : (r b : Bool) → r ≡ b → not r ≡ true → b ≡ false
-failed r b e h = sym e ∙ not-true r h
 
 in-limits-requires : tie.Need-in-limits-requires
 in-limits-requires c κs = search needs

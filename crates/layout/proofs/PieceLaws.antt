@@ -1,0 +1,76 @@
+-- Pieces as numbers: the list of the first n has n pieces, its piece i is the piece with number i, and so the questions of the list
+-- are those of the numbers, and numbers that state a valid layer are in range. Assumes nothing.
+use mathlib.Core.Bool.{true, not}
+use mathlib.Core.List.{List}
+use mathlib.Core.Path.{_≡_, ap, ap₂, _∙_}
+use Prim.Native.Nat.{ℕ, _≤_, _<_}
+use native.Mathlib.Omega.{arith}
+use lib.Dec.{leb, leb·zero}
+use lib.ListN.{length, length-map}
+use borrow.Author.Tests.{le-leb, lt-leb, leb-true}
+use Rattle.rules.specs.declared.layer.Settings.{Settings}
+use Rattle.rules.specs.declared.layer.Piece.{Piece}
+use Rattle.rules.specs.declared.refusal.Place.{Place}
+use Rattle.rules.specs.Basics.{upTo, anyOf}
+use Rattle.rules.specs.Settings.{settingsInRange, pieceInRange, hasArea, pieceAt}
+use Rattle.rules.specs.Edges.{overlapping}
+use Rattle.rules.specs.Questions.{Outcome, refused, ask, andThen, askEach, judgePiece, judgeOverlaps, judgeLayer, Valid}
+use Rattle.rules.proofs.Validity.{valid-sound}
+use Rattle.layout.specs.Flat.{pieceOf, piecesOf}
+use Rattle.rules.proofs.Tests.{and-right}
+use Rattle.rules.proofs.Outcomes.{each-ext}
+use Rattle.rules.proofs.Lists.{any-ext, length-upTo, mapped-upTo}
+
+pub pieces-length : (flat : List ℕ) (n : ℕ) → length (piecesOf flat n) ≡ n
+unfolding piecesOf
+pieces-length flat n = length-map (upTo n) (pieceOf flat) ∙ length-upTo n
+
+pub piece-of : (flat : List ℕ) (n i : ℕ) → i < n → pieceAt (piecesOf flat n) i ≡ pieceOf flat i
+unfolding piecesOf
+piece-of flat n i h = mapped-upTo (pieceOf flat) _ n i h
+
+-- ---- the questions
+
+-- 4 and 5 of piece i
+abbrev pub pieceQuestion : List ℕ → ℕ → Outcome (Unit {0})
+pieceQuestion flat i = judgePiece (Place.Piece i) (pieceOf flat i)
+
+-- 6 of piece j
+abbrev pub overlapQuestion : List ℕ → ℕ → Outcome (Unit {0})
+overlapQuestion flat j = ask (not (anyOf (λ i. overlapping (pieceOf flat i) (pieceOf flat j)) (upTo j))) 6 (Place.Piece j)
+
+pub overlaps-of : (flat : List ℕ) (n : ℕ) → judgeOverlaps (piecesOf flat n) ≡ askEach (overlapQuestion flat) n
+unfolding judgeOverlaps
+overlaps-of flat n =
+    rw (pieces-length flat n)
+    (each-ext n λ j h. rw (any-ext j λ i l. ap₂ overlapping (piece-of flat n i (omega arith)) (piece-of flat n j h)))
+
+module _ (s : Settings) (flat : List ℕ) (n : ℕ) (inRange : settingsInRange s ≡ true) where
+  pub layer-too-long : 512 < n → judgeLayer s (piecesOf flat n) ≡ refused 4 Place.Nothing
+  unfolding judgeLayer
+  layer-too-long h = rw (inRange, pieces-length flat n, lt-leb n 512 h, leb·zero n)
+
+  pub layer-of : n ≤ 512 → judgeLayer s (piecesOf flat n) ≡ andThen (askEach (pieceQuestion flat) n) λ _. judgeOverlaps (piecesOf flat n)
+  unfolding judgeLayer
+  layer-of h =
+      rw (inRange, pieces-length flat n, le-leb n 512 h, leb·zero n)
+      (rw (each-ext n λ i l. ap (judgePiece (Place.Piece i)) (piece-of flat n i l)))
+
+-- ---- what is true of numbers that state a valid layer
+
+pub record SoundFlat (s : Settings) (flat : List ℕ) (n : ℕ) : Type 0 where
+  pub settings : settingsInRange s ≡ true
+  pub count : n ≤ 512
+  pub ranges : (i : ℕ) → i < n → pieceInRange (pieceOf flat i) ≡ true
+  pub areas : (i : ℕ) → i < n → hasArea (pieceOf flat i) ≡ true
+
+pub valid-flat : (s : Settings) (flat : List ℕ) (n : ℕ) → Valid s (piecesOf flat n) → SoundFlat s flat n
+valid-flat s flat n valid =
+    let f = valid-sound s (piecesOf flat n) valid in
+    let e = pieces-length flat n in
+    record {
+      settings = f .settings;
+      count = leb-true n 512 (and-right (leb 0 n) (leb n 512) (rw e at (f .count)));
+      ranges = λ i h. rw (piece-of flat n i h) at (f .ranges i (omega arith));
+      areas = λ i h. rw (piece-of flat n i h) at (f .areas i (omega arith));
+    }

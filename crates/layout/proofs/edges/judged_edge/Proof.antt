@@ -1,0 +1,27 @@
+-- `judged_edge`: a conflict, else a stitch, else nothing. Assumes nothing.
+use borrow.Author.Needs.{needs}
+use mathlib.Core.Path.{sym, _∙_}
+use Rattle.rules.specs.Edges.{edgeOf}
+use Rattle.layout.proofs.edges.judged_edge.Statement.{statement}
+use Rattle.layout.proofs.edges.judged_edge.Tie as tie
+
+conflict-requires : tie.Need-conflict-requires
+conflict-requires c κs = search needs
+
+returns : tie.Need-returns
+unfolding edgeOf
+returns c = rw (sym (c .before .conflict .ensures) ∙ c .if1 .taken)
+
+stitch-requires : tie.Need-stitch-requires
+stitch-requires c κs = search needs
+
+returns-2 : tie.Need-returns-2
+unfolding edgeOf
+returns-2 c = rw (sym (c .before .before .before .conflict .ensures) ∙ c .before .before .if1 .left, sym (c .before .stitch .ensures) ∙ c .if2 .taken)
+
+returns-3 : tie.Need-returns-3
+unfolding edgeOf
+returns-3 c = rw (sym (c .before .before .before .conflict .ensures) ∙ c .before .before .if1 .left, sym (c .before .stitch .ensures) ∙ c .if2 .left)
+
+pub judged-edge-spec : {M : Type 1} → statement M
+judged-edge-spec = tie.close (tie.spec conflict-requires returns stitch-requires returns-2 returns-3)

@@ -1,0 +1,20 @@
+-- Pieces as numbers, five to a piece: shape, X1, Y1, X2, Y2. Assumes nothing: these are definitions.
+use mathlib.Core.List.{List, map}
+use Prim.Native.Nat.{ℕ, _+_, _*_}
+use lib.ListN.{getD}
+use Rattle.rules.specs.declared.layer.Piece.{Piece}
+use Rattle.rules.specs.Basics.{upTo}
+
+-- the piece with number i
+unfoldable pub pieceOf : List ℕ → ℕ → Piece
+pieceOf flat i = record {
+  shape = getD flat (5 * i) 0;
+  x1 = getD flat (5 * i + 1) 0;
+  y1 = getD flat (5 * i + 2) 0;
+  x2 = getD flat (5 * i + 3) 0;
+  y2 = getD flat (5 * i + 4) 0;
+}
+
+-- the first n pieces
+unfoldable pub piecesOf : List ℕ → ℕ → List Piece
+piecesOf flat n = map (pieceOf flat) (upTo n)

@@ -1,0 +1,3 @@
+pub mod Flat
+pub mod Judged
+pub mod Adjacency

@@ -1,0 +1,119 @@
+// The edge between two pieces (RULES 2). Inside, pieces are judged already; the public call judges them as a layer of two.
+ghost use mathlib.Core.List.{[], _∷_};
+ghost use mathlib.Core.Bool.{true};
+ghost use mathlib.Core.Path.{_≡_};
+ghost use Prim.Native.Nat.{_+_, _*_};
+ghost use Rattle.rules.specs.Answers.{edgeAnswer};
+ghost use Rattle.rules.specs.Calls.{edgeBetween};
+ghost use Rattle.rules.specs.Settings.{settingsInRange, pieceInRange};
+ghost use Rattle.rules.specs.Edges.{contact, squaredGap, conflictEdge, stitchEdge, edgeOf};
+ghost use Rattle.rules.specs.Questions.{judgeLayer};
+ghost use Rattle.layout.specs.Judged.{judgement};
+use crate::distance::gap;
+use crate::distance::meet;
+use crate::distance::overlap;
+use crate::judging::Judgement;
+use crate::judging::judge_piece;
+use crate::judging::pieces_overlap;
+use rules::Edge;
+use rules::EdgeAnswer;
+use rules::Piece;
+use rules::Place;
+use rules::Refusal;
+use rules::Settings;
+
+// The squared distance of two pieces. A square of a coordinate does not fit 32 bits.
+fn squared_gap(a: Piece, b: Piece) -> u64
+    requires { ⌜ pieceInRange a ≡ true ⌝ }
+    requires { ⌜ pieceInRange b ≡ true ⌝ }
+    ensures { λ r. ⌜ r ≡ squaredGap a b ⌝ }
+{
+    let gx = gap(a.x1, a.x2, b.x1, b.x2) as u64;
+    let gy = gap(a.y1, a.y2, b.y1, b.y2) as u64;
+    gx * gx + gy * gy
+}
+
+// Whether a conflict edge joins two pieces.
+pub fn conflict(settings: Settings, a: Piece, b: Piece) -> bool
+    requires { ⌜ settingsInRange settings ≡ true ⌝ }
+    requires { ⌜ pieceInRange a ≡ true ⌝ }
+    requires { ⌜ pieceInRange b ≡ true ⌝ }
+    ensures { λ r. ⌜ r ≡ conflictEdge settings a b ⌝ }
+{
+    if a.shape == b.shape {
+        return false;
+    }
+    let spacing = settings.spacing as u64;
+    squared_gap(a, b) < spacing * spacing
+}
+
+// The length along which two pieces touch.
+fn contact_length(a: Piece, b: Piece) -> u32
+    ensures { λ r. ⌜ r ≡ contact a b ⌝ }
+{
+    if meet(a.x1, a.x2, b.x1, b.x2) {
+        return overlap(a.y1, a.y2, b.y1, b.y2);
+    }
+    if meet(a.y1, a.y2, b.y1, b.y2) {
+        return overlap(a.x1, a.x2, b.x1, b.x2);
+    }
+    0
+}
+
+// Whether a stitch edge joins two pieces.
+pub fn stitch(settings: Settings, a: Piece, b: Piece) -> bool
+    ensures { λ r. ⌜ r ≡ stitchEdge settings a b ⌝ }
+{
+    if a.shape != b.shape {
+        return false;
+    }
+    settings.margin <= contact_length(a, b)
+}
+
+// The edge between two pieces that are judged.
+fn judged_edge(settings: Settings, a: Piece, b: Piece) -> Edge
+    requires { ⌜ settingsInRange settings ≡ true ⌝ }
+    requires { ⌜ pieceInRange a ≡ true ⌝ }
+    requires { ⌜ pieceInRange b ≡ true ⌝ }
+    ensures { λ r. ⌜ r ≡ edgeOf settings a b ⌝ }
+{
+    if conflict(settings, a, b) {
+        return Edge::Conflict;
+    }
+    if stitch(settings, a, b) {
+        return Edge::Stitch;
+    }
+    Edge::None
+}
+
+// Questions 4 to 6 of the layer of two pieces.
+fn judge_pair(settings: Settings, a: Piece, b: Piece) -> Judgement
+    ensures { λ r. ⌜ judgement r ≡ judgeLayer settings (a ∷ b ∷ []) ⌝ }
+{
+    if !settings.in_range() {
+        return Judgement::Refused(Refusal::Range, Place::Nothing);
+    }
+    let first = judge_piece(Place::Piece(0), a);
+    if let Judgement::Refused(refusal, place) = first {
+        return Judgement::Refused(refusal, place);
+    }
+    let second = judge_piece(Place::Piece(1), b);
+    if let Judgement::Refused(refusal, place) = second {
+        return Judgement::Refused(refusal, place);
+    }
+    if pieces_overlap(a, b) {
+        return Judgement::Refused(Refusal::Overlap, Place::Piece(1));
+    }
+    Judgement::Passed
+}
+
+// The edge between any two pieces, or the first refusal that the layer of these two meets.
+pub fn edge(settings: Settings, a: Piece, b: Piece) -> EdgeAnswer
+    ensures { λ r. ⌜ edgeAnswer r ≡ edgeBetween settings a b ⌝ }
+{
+    let judged = judge_pair(settings, a, b);
+    if let Judgement::Refused(refusal, place) = judged {
+        return EdgeAnswer::Refused(refusal, place);
+    }
+    EdgeAnswer::Found(judged_edge(settings, a, b))
+}

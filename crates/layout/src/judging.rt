@@ -1,0 +1,131 @@
+// Questions 4 to 6 of a layer in numbers (RULES 11).
+ghost use mathlib.Core.Path.{_≡_};
+ghost use Prim.Native.Nat.{_≤_, _<_};
+ghost use Rattle.rules.specs.declared.refusal.Place.{Place};
+ghost use Rattle.rules.specs.Basics.{anyOf, upTo};
+ghost use Rattle.rules.specs.Settings.{pieceInRange, hasArea};
+ghost use Rattle.rules.specs.Edges.{overlapping};
+ghost use Rattle.rules.specs.Questions.{askEach, judgePiece, judgeLayer, judgeOverlaps};
+ghost use Rattle.layout.specs.Flat.{pieceOf, piecesOf};
+ghost use Rattle.layout.specs.Judged.{judgement};
+use crate::distance::overlap;
+use crate::flat::piece_at;
+use rules::Piece;
+use rules::Place;
+use rules::Refusal;
+use rules::Settings;
+
+pub enum Judgement {
+    Passed,
+    Refused(Refusal, Place),
+}
+
+// Whether each number of a piece is in its range.
+fn in_range(p: Piece) -> bool
+    ensures { λ r. ⌜ r ≡ pieceInRange p ⌝ }
+{
+    if Piece::SHAPE_GREATEST < p.shape {
+        return false;
+    }
+    if Piece::COORDINATE_GREATEST < p.x1 {
+        return false;
+    }
+    if Piece::COORDINATE_GREATEST < p.y1 {
+        return false;
+    }
+    p.x2 <= Piece::COORDINATE_GREATEST && p.y2 <= Piece::COORDINATE_GREATEST
+}
+
+// Whether a piece has width and height.
+fn has_area(p: Piece) -> bool
+    ensures { λ r. ⌜ r ≡ hasArea p ⌝ }
+{
+    p.x1 < p.x2 && p.y1 < p.y2
+}
+
+// Questions 4 and 5 of one piece.
+pub fn judge_piece(place: Place, p: Piece) -> Judgement
+    ensures { λ r. ⌜ judgement r ≡ judgePiece place p ⌝ }
+{
+    if !in_range(p) {
+        return Judgement::Refused(Refusal::Range, place);
+    }
+    if !has_area(p) {
+        return Judgement::Refused(Refusal::Area, place);
+    }
+    Judgement::Passed
+}
+
+// Whether two pieces of one shape overlap.
+pub fn pieces_overlap(a: Piece, b: Piece) -> bool
+    ensures { λ r. ⌜ r ≡ overlapping a b ⌝ }
+{
+    if a.shape != b.shape {
+        return false;
+    }
+    0 < overlap(a.x1, a.x2, b.x1, b.x2) && 0 < overlap(a.y1, a.y2, b.y1, b.y2)
+}
+
+// Questions 4 and 5 of the first n pieces.
+fn judge_pieces(flat: &[u32; 2560], n: usize) -> Judgement
+    requires { ⌜ n ≤ 512 ⌝ }
+    ensures { λ r. ⌜ judgement r ≡ askEach (λ i. judgePiece (Place.Piece i) (pieceOf (now (flat .entry)) i)) n ⌝ }
+{
+    let mut i = 0;
+    while i < n {
+        let judged = judge_piece(Place::Piece(i as u32), piece_at(flat, i));
+        if let Judgement::Refused(refusal, place) = judged {
+            return Judgement::Refused(refusal, place);
+        }
+        i += 1;
+    }
+    Judgement::Passed
+}
+
+// Whether piece j overlaps an earlier one of its shape.
+fn overlaps_earlier(flat: &[u32; 2560], j: usize) -> bool
+    requires { ⌜ j < 512 ⌝ }
+    ensures { λ r. ⌜ r ≡ anyOf (λ i. overlapping (pieceOf (now (flat .entry)) i) (pieceOf (now (flat .entry)) j)) (upTo j) ⌝ }
+{
+    let p = piece_at(flat, j);
+    let mut i = 0;
+    while i < j {
+        if pieces_overlap(piece_at(flat, i), p) {
+            return true;
+        }
+        i += 1;
+    }
+    false
+}
+
+// Question 6 of the first n pieces.
+pub fn judge_overlaps(flat: &[u32; 2560], n: usize) -> Judgement
+    requires { ⌜ n ≤ 512 ⌝ }
+    ensures { λ r. ⌜ judgement r ≡ judgeOverlaps (piecesOf (now (flat .entry)) n) ⌝ }
+{
+    let mut j = 0;
+    while j < n {
+        if overlaps_earlier(flat, j) {
+            return Judgement::Refused(Refusal::Overlap, Place::Piece(j as u32));
+        }
+        j += 1;
+    }
+    Judgement::Passed
+}
+
+// Questions 4 to 6 of the layer of the first n pieces. Past 512 the array states no pieces, and n alone is refused.
+pub fn judge(settings: Settings, flat: &[u32; 2560], n: usize) -> Judgement
+    ensures { λ r. ⌜ judgement r ≡ judgeLayer settings (piecesOf (now (flat .entry)) n) ⌝ }
+{
+    if !settings.in_range() {
+        return Judgement::Refused(Refusal::Range, Place::Nothing);
+    }
+    if Piece::COUNT_GREATEST < n {
+        return Judgement::Refused(Refusal::Range, Place::Nothing);
+    }
+    let pieces = judge_pieces(flat, n);
+    if let Judgement::Refused(refusal, place) = pieces {
+        return Judgement::Refused(refusal, place);
+    }
+    judge_overlaps(flat, n)
+}

@@ -1,0 +1,77 @@
+// The adjacency words of a judged layer: a bit for each pair of pieces, in a matrix for each kind of edge. Each unordered
+// pair is tested once, from its greater number, and both of its bits are set.
+ghost use mathlib.Core.Bool.{true, _&&_, _||_};
+ghost use mathlib.Core.Path.{_≡_};
+ghost use Prim.Native.Nat.{ℕ, _<_, _≤_};
+ghost use lib.ListN.{replicate};
+ghost use Rattle.bitset.specs.Bits.{joined};
+ghost use Rattle.rules.specs.Settings.{settingsInRange, pieceInRange};
+ghost use Rattle.rules.specs.Questions.{Valid};
+ghost use Rattle.layout.specs.Flat.{pieceOf, piecesOf};
+ghost use Rattle.layout.specs.Adjacency.{conflictOf, stitchOf, isPair, RowTo, Adjacency};
+use crate::edges::conflict;
+use crate::edges::stitch;
+use crate::flat::piece_at;
+use rules::Settings;
+
+// Sets every word to 0.
+fn clear(words: &mut [u64; 4096])
+    ensures { λ _. ⌜ now (words .exit) ≡ replicate 4096 0 ⌝ }
+{
+    *words = [0u64; 4096];
+}
+
+// Joins i and j where they have an edge.
+fn join_where(words: &mut [u64; 4096], i: usize, j: usize, edge: bool)
+    requires { ⌜ i < 512 ⌝ }
+    requires { ⌜ j < 512 ⌝ }
+    ensures { λ _. ⌜ ((a b : ℕ) → b < 512 → joined (now (words .exit)) a b ≡ (joined (now (words .entry)) a b || (edge && isPair i j a b))) ⌝ }
+{
+    if edge {
+        bitset::join(words, i, j);
+    }
+}
+
+// Adds the edges between piece j and the pieces before it.
+fn adjacency_row(
+    settings: Settings,
+    flat: &[u32; 2560],
+    j: usize,
+    conflicts: &mut [u64; 4096],
+    stitches: &mut [u64; 4096],
+)
+    requires { ⌜ j < 512 ⌝ }
+    requires { ⌜ settingsInRange settings ≡ true ⌝ }
+    requires { ⌜ ((i : ℕ) → i ≤ j → pieceInRange (pieceOf (now flat) i) ≡ true) ⌝ }
+    ensures { λ _. ⌜ RowTo (conflictOf settings (now (flat .entry))) j j (now (conflicts .entry)) (now (conflicts .exit)) ⌝ }
+    ensures { λ _. ⌜ RowTo (stitchOf settings (now (flat .entry))) j j (now (stitches .entry)) (now (stitches .exit)) ⌝ }
+{
+    let p = piece_at(flat, j);
+    let mut i = 0;
+    while i < j {
+        let q = piece_at(flat, i);
+        join_where(conflicts, i, j, conflict(settings, q, p));
+        join_where(stitches, i, j, stitch(settings, q, p));
+        i += 1;
+    }
+}
+
+// Fills both matrices, whatever was in them.
+pub fn adjacency(
+    settings: Settings,
+    flat: &[u32; 2560],
+    n: usize,
+    conflicts: &mut [u64; 4096],
+    stitches: &mut [u64; 4096],
+)
+    requires { ⌜ Valid settings (piecesOf (now flat) n) ⌝ }
+    ensures { λ _. ⌜ Adjacency settings (piecesOf (now (flat .entry)) n) n (now (conflicts .exit)) (now (stitches .exit)) ⌝ }
+{
+    clear(conflicts);
+    clear(stitches);
+    let mut j = 0;
+    while j < n {
+        adjacency_row(settings, flat, j, conflicts, stitches);
+        j += 1;
+    }
+}

@@ -1,0 +1,52 @@
+-- Sums over the numbers below a bound, and over unordered pairs of them: one number more, terms that agree, and how large they get where
+-- each term is at most 1. Assumes nothing.
+use mathlib.Core.Path.{_≡_, refl, ap₂}
+use Prim.Native.Nat.{ℕ, zero, suc, _+_, _*_, _≤_, _<_}
+use native.Mathlib.Nat.{mul-suc, suc-mul, mul-le-mul}
+use native.Mathlib.Numerals.{add-one}
+use native.Mathlib.Omega.{arith}
+use Rattle.rules.specs.Basics.{sumTo, sumPairs}
+
+pub sum-next : (f : ℕ → ℕ) (n : ℕ) → sumTo f (n + 1) ≡ sumTo f n + f n
+unfolding sumTo
+sum-next f n = rw (add-one n)
+
+pub sum-ext : {f g : ℕ → ℕ} (n : ℕ) → ((k : ℕ) → k < n → f k ≡ g k) → sumTo f n ≡ sumTo g n
+unfolding sumTo
+sum-ext zero h = refl
+sum-ext (suc n) h = ap₂ (λ (x y : ℕ). x + y) (sum-ext n (λ k l. h k (omega arith))) (h n (omega arith))
+
+pub sum-le : (f : ℕ → ℕ) (n : ℕ) → ((k : ℕ) → f k ≤ 1) → sumTo f n ≤ n
+unfolding sumTo
+sum-le f zero h = omega arith
+sum-le f (suc n) h = omega (arith, sum-le f n h, h n)
+
+pub pairs-next : (f : ℕ → ℕ → ℕ) (n : ℕ) → sumPairs f (n + 1) ≡ sumPairs f n + sumTo (λ u. f u n) n
+unfolding sumPairs
+pairs-next f n = sum-next _ n
+
+pub pairs-ext : {f g : ℕ → ℕ → ℕ} (n : ℕ) → ((u v : ℕ) → u < v → v < n → f u v ≡ g u v) → sumPairs f n ≡ sumPairs g n
+unfolding sumPairs
+pairs-ext n h = sum-ext n (λ v l. sum-ext v (λ u k. h u v k l))
+
+-- n numbers have n * (n - 1) / 2 unordered pairs
+pub pairs-le : (f : ℕ → ℕ → ℕ) (n : ℕ) → ((u v : ℕ) → f u v ≤ 1) → 2 * sumPairs f n + n ≤ n * n
+unfolding sumPairs sumTo
+pairs-le f zero h = omega arith
+pairs-le f (suc n) h = omega (arith, pairs-le f n h, sum-le (λ u. f u n) n (λ u. h u n), mul-suc (suc n) n, suc-mul n n)
+
+pub pairs-small : (f : ℕ → ℕ → ℕ) (n : ℕ) → ((u v : ℕ) → f u v ≤ 1) → n ≤ 512 → sumPairs f n ≤ 130_816
+pairs-small f zero h l = omega (arith, pairs-le f 0 h)
+pairs-small f (suc n) h l =
+    let m : n ≤ 511 = omega arith in
+    omega (arith, pairs-le f (suc n) h, mul-suc (suc n) n, suc-mul n n, mul-le-mul m m)
+
+-- ---- a loop that adds up: what it has, with one term or one row more
+
+module _ (f : ℕ → ℕ) (n : ℕ) (single : (k : ℕ) → f k ≤ 1) where
+  pub sum-more : {sum term : ℕ} → sum ≡ sumTo f n → term ≡ f n → (sum + term ≡ sumTo f (n + 1)) × (sum + term ≤ n + 1)
+  sum-more e t = omega (arith, sum-next f n, sum-le f (n + 1) single)
+
+module _ (f : ℕ → ℕ → ℕ) (n : ℕ) (single : (u v : ℕ) → f u v ≤ 1) where
+  pub pairs-more : {sum row : ℕ} → n < 512 → sum ≡ sumPairs f n → row ≡ sumTo (λ u. f u n) n → (sum + row ≡ sumPairs f (n + 1)) × (sum + row ≤ 130_816)
+  pairs-more l e r = omega (arith, pairs-next f n, pairs-small f (n + 1) single (omega arith))

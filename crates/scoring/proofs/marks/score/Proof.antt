@@ -1,0 +1,21 @@
+-- `score`: the words of the layer score as its graph. Assumes nothing.
+use mathlib.Core.Path.{_∙_}
+use Rattle.rules.proofs.Ranges.{settings-facts}
+use Rattle.layout.proofs.PieceLaws.{valid-flat}
+use Rattle.scoring.proofs.ScoreLaws.{words-score}
+use Rattle.scoring.proofs.marks.score.Statement.{statement}
+use Rattle.scoring.proofs.marks.score.Tie as tie
+
+adjacency-requires : tie.Need-adjacency-requires
+adjacency-requires c κs = c .before .before .before .pre .0
+
+score-words-requires : tie.Need-score-words-requires
+score-words-requires c κs =
+    let f = valid-flat _ _ _ (c .before .before .before .before .before .before .pre .0) in
+    (settings-facts _ (f .settings) .weight .high, (f .count, c .before .before .before .before .before .before .pre .1))
+
+returns : tie.Need-returns
+returns c = c .score-words .ensures ∙ words-score _ _ _ _ _ _ _ (c .before .before .before .adjacency .ensures) (valid-flat _ _ _ (c .before .before .before .before .before .before .before .pre .0) .count)
+
+pub score-spec : {M : Type 1} → statement M
+score-spec = tie.close (tie.spec adjacency-requires score-words-requires returns)

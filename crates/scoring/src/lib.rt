@@ -1,0 +1,9 @@
+// What given masks score (RULES 3): conflicts, stitches and cost, from adjacency words, from a judged layer, or, with questions
+// 4 to 8 of RULES 11, from any numbers. The decomposition counts its result here, and the public call on records stands on
+// `score_flat`.
+mod counting;
+mod marks;
+
+pub use counting::score_words;
+pub use marks::score;
+pub use marks::score_flat;
