@@ -3,6 +3,7 @@ pub mod Cases
 pub mod Examples
 pub mod Tests
 pub mod Lists
+pub mod Sums
 pub mod Outcomes
 pub mod Validity
 pub mod Reading

@@ -23,7 +23,7 @@ use Rattle.layout.specs.Adjacency.{Holds, Adjacency}
 use Rattle.layout.proofs.PieceLaws.{pieces-length}
 use Rattle.layout.proofs.MatrixLaws.{given-test}
 use Rattle.scoring.specs.Counts.{graphIn, conflictIn, stitchIn, maskQuestion}
-use Rattle.scoring.proofs.SumLaws.{pairs-ext, pairs-small}
+use Rattle.rules.proofs.Sums.{pairs-ext, pairs-small}
 
 -- ---- small
 

@@ -1,6 +1,5 @@
 -- Laws of the rules, by subject.
 pub mod Each
-pub mod Sums
 pub mod Cost
 pub mod Score
 pub mod Peeling

@@ -19,7 +19,7 @@ use Rattle.rules.specs.Search.{added, totalAfter, total, different, candidates,
 use Rattle.rules.proofs.Lists.{any-snoc, in-upFrom}
 use Rattle.rules.proofs.Tests.{lt-or-ge}
 use Rattle.theory.proofs.Each.{Each, each-imp, each-snoc, each-run, getD-map}
-use Rattle.theory.proofs.Sums.{sum-terms}
+use Rattle.rules.proofs.Sums.{sum-ext}
 use Rattle.theory.proofs.Search.{search-priced, search-length, search-each, Priced, Allowed, best, first-length, first-below}
 use Rattle.theory.proofs.Budget.{start}
 
@@ -85,7 +85,7 @@ module _ (f : ℕ → ℕ) (apart : (x y : ℕ) → eqb (f x) (f y) ≡ eqb x y)
   unfolding added pairCost
   added-map p m =
       rw (length-map p f)
-      (sum-terms (λ i. pairCost weight g i (length p) (getD (map f p) i 0) (f m)) (λ i. pairCost weight g i (length p) (getD p i 0) m) (length p)
+      (sum-ext (length p)
       (λ i l. rw (getD-map f p i l, apart (getD p i 0) m)))
 
   total-map : (p : List ℕ) (c : ℕ) (q : List ℕ) → totalAfter (added weight g) (map f p) c (map f q) ≡ totalAfter (added weight g) p c q

@@ -4,7 +4,7 @@ use Prim.Native.Nat.{_+_, _-_, _≤_}
 use native.Mathlib.Omega.{arith}
 use Rattle.rules.specs.Basics.{sumTo}
 use Rattle.scoring.specs.Counts.{conflictIn, stitchIn}
-use Rattle.scoring.proofs.SumLaws.{sum-more}
+use Rattle.rules.proofs.Sums.{sum-more}
 use Rattle.scoring.proofs.ScoreLaws.{conflict-le, stitch-le}
 use Rattle.scoring.proofs.counting.count_row.Statement.{statement}
 use Rattle.scoring.proofs.counting.count_row.Tie as tie

@@ -6,7 +6,7 @@ use Rattle.rules.specs.declared.answers.Score.{Score}
 use Rattle.rules.specs.Basics.{sumTo, sumPairs}
 use Rattle.rules.specs.Score.{scoreOf, conflictsOf, stitchesOf}
 use Rattle.scoring.specs.Counts.{conflictIn, stitchIn}
-use Rattle.scoring.proofs.SumLaws.{pairs-more, pairs-small}
+use Rattle.rules.proofs.Sums.{pairs-more, pairs-small}
 use Rattle.scoring.proofs.ScoreLaws.{conflict-le, stitch-le, cost-small}
 use Rattle.scoring.proofs.counting.score_words.Statement.{statement}
 use Rattle.scoring.proofs.counting.score_words.Tie as tie
