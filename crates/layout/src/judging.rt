@@ -21,7 +21,7 @@ pub enum Judgement {
 }
 
 // Whether each number of a piece is in its range.
-fn in_range(p: Piece) -> bool
+pub fn piece_in_range(p: Piece) -> bool
     ensures { λ r. ⌜ r ≡ pieceInRange p ⌝ }
 {
     if Piece::SHAPE_GREATEST < p.shape {
@@ -37,7 +37,7 @@ fn in_range(p: Piece) -> bool
 }
 
 // Whether a piece has width and height.
-fn has_area(p: Piece) -> bool
+pub fn has_area(p: Piece) -> bool
     ensures { λ r. ⌜ r ≡ hasArea p ⌝ }
 {
     p.x1 < p.x2 && p.y1 < p.y2
@@ -47,7 +47,7 @@ fn has_area(p: Piece) -> bool
 pub fn judge_piece(place: Place, p: Piece) -> Judgement
     ensures { λ r. ⌜ judgement r ≡ judgePiece place p ⌝ }
 {
-    if !in_range(p) {
+    if !piece_in_range(p) {
         return Judgement::Refused(Refusal::Range, place);
     }
     if !has_area(p) {

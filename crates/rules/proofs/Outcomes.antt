@@ -84,3 +84,26 @@ each-refused question (suc n) {i} {number} {place} l e r = go (ℕ-discrete i n)
     go : Dec (i ≡ n) → (i < n → askEach question n ≡ refused number place) → andThen (askEach question n) (λ _. question n) ≡ refused number place
     go (yes p) ih = rw (← p, e) r
     go (no q) ih = rw (ih (omega arith))
+
+-- ---- From what passed to what was asked
+
+-- a part that was not refused, and the next
+pub then-done : {A B : Type 0} (o : Outcome A) (f : A → Outcome B) (b : B) → andThen o f ≡ done b → (a : A) × (o ≡ done a) × (f a ≡ done b)
+then-done (done a) f b e = (a, refl, e)
+then-done (refused number place) f b e = let z : _≡_ {A = ℕ} 0 1 = cc e in absurd (omega arith)
+
+-- the same, handed to what goes on
+pub then-with : {A B P : Type 0} (o : Outcome A) (f : A → Outcome B) (b : B) → andThen o f ≡ done b → ((a : A) → o ≡ done a → f a ≡ done b → P) → P
+then-with o f b e next = let r = then-done o f b e in next (r .0) (r .1) (r .2)
+
+pub ask-yes : (t : Bool) (number : ℕ) (place : Place) → ask t number place ≡ done tt → t ≡ true
+ask-yes true number place e = refl
+ask-yes false number place e = let z : _≡_ {A = ℕ} 0 1 = cc e in absurd (omega arith)
+
+-- each question of a row that passed
+pub each-passed : (question : ℕ → Outcome (Unit {0})) (n : ℕ) → askEach question n ≡ done tt → (i : ℕ) → i < n → question i ≡ done tt
+each-passed question n e = accepted (ends-each {R = λ _ _. Unit {0}} question n (λ i h. itself (question i))) e
+  where
+    itself : (o : Outcome (Unit {0})) → Ends (λ _. o ≡ done tt) (λ _ _. Unit {0}) o
+    itself (done _) = accepts refl
+    itself (refused number place) = refuses tt

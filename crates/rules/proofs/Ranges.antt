@@ -1,5 +1,5 @@
 -- What the tests of ranges and areas say, as facts on numbers. Each test is a row of comparisons joined by "and". Assumes nothing.
-use mathlib.Core.Bool.{Bool, true, _&&_, and-eq-true-iff}
+use mathlib.Core.Bool.{Bool, true, _&&_}
 use mathlib.Core.Path.{_≡_}
 use Prim.Native.Nat.{ℕ, _≤_, _<_}
 use lib.Dec.{leb, ltb}
@@ -7,6 +7,7 @@ use borrow.Author.Tests.{leb-true, ltb-true}
 use Rattle.rules.specs.declared.layer.Settings.{Settings}
 use Rattle.rules.specs.declared.layer.Piece.{Piece}
 use Rattle.rules.specs.Settings.{within, masksInRange, spacingInRange, marginInRange, weightInRange, budgetInRange, settingsInRange, shapeInRange, coordinateInRange, pieceInRange, hasArea}
+use Rattle.rules.proofs.Tests.{both}
 
 -- least ≤ x ≤ greatest
 pub record Within (least greatest x : ℕ) : Type 0 where
@@ -15,17 +16,51 @@ pub record Within (least greatest x : ℕ) : Type 0 where
 
 pub within-facts : (least greatest x : ℕ) → within least greatest x ≡ true → Within least greatest x
 within-facts least greatest x e =
-    let b = and-eq-true-iff (leb least x) (leb x greatest) .0 e in
+    let b = both (leb least x) (leb x greatest) e in
     record { low = leb-true least x (b .0); high = leb-true x greatest (b .1) }
 
 -- the parts of five tests that all pass
 five : (a b c d e : Bool) → (a && b && c && d && e) ≡ true → (a ≡ true) × (b ≡ true) × (c ≡ true) × (d ≡ true) × (e ≡ true)
 five a b c d e h =
-    let p = and-eq-true-iff (a && b && c && d) e .0 h in
-    let q = and-eq-true-iff (a && b && c) d .0 (p .0) in
-    let r = and-eq-true-iff (a && b) c .0 (q .0) in
-    let s = and-eq-true-iff a b .0 (r .0) in
+    let p = both (a && b && c && d) e h in
+    let q = both (a && b && c) d (p .0) in
+    let r = both (a && b) c (q .0) in
+    let s = both a b (r .0) in
     (s .0, s .1, r .1, q .1, p .1)
+
+-- ---- One by one, as tests
+
+pub record SettingRanges (s : Settings) : Type 0 where
+  pub masks : masksInRange (s .masks) ≡ true
+  pub spacing : spacingInRange (s .spacing) ≡ true
+  pub margin : marginInRange (s .margin) ≡ true
+  pub weight : weightInRange (s .weight) ≡ true
+  pub budget : budgetInRange (s .budget) ≡ true
+
+pub setting-ranges : (s : Settings) → settingsInRange s ≡ true → SettingRanges s
+unfolding settingsInRange
+setting-ranges s e =
+    let t = five (masksInRange (s .masks)) (spacingInRange (s .spacing)) (marginInRange (s .margin)) (weightInRange (s .weight)) (budgetInRange (s .budget)) e in
+    record { masks = t .0; spacing = t .1; margin = t .2; weight = t .3; budget = t .4 }
+
+pub ranges-settings : (s : Settings) → SettingRanges s → settingsInRange s ≡ true
+unfolding settingsInRange
+ranges-settings s r = rw (r .masks, r .spacing, r .margin, r .weight, r .budget)
+
+pub record PieceRanges (p : Piece) : Type 0 where
+  pub shape : shapeInRange (p .shape) ≡ true
+  pub x1 : coordinateInRange (p .x1) ≡ true
+  pub y1 : coordinateInRange (p .y1) ≡ true
+  pub x2 : coordinateInRange (p .x2) ≡ true
+  pub y2 : coordinateInRange (p .y2) ≡ true
+
+pub piece-ranges : (p : Piece) → pieceInRange p ≡ true → PieceRanges p
+unfolding pieceInRange
+piece-ranges p e =
+    let t = five (shapeInRange (p .shape)) (coordinateInRange (p .x1)) (coordinateInRange (p .y1)) (coordinateInRange (p .x2)) (coordinateInRange (p .y2)) e in
+    record { shape = t .0; x1 = t .1; y1 = t .2; x2 = t .3; y2 = t .4 }
+
+-- ---- As facts
 
 pub record SettingsFacts (s : Settings) : Type 0 where
   pub masks : Within 2 8 (s .masks)
@@ -35,15 +70,14 @@ pub record SettingsFacts (s : Settings) : Type 0 where
   pub budget : Within 0 1_000_000_000 (s .budget)
 
 pub settings-facts : (s : Settings) → settingsInRange s ≡ true → SettingsFacts s
-unfolding settingsInRange
 settings-facts s e =
-    let t = five (masksInRange (s .masks)) (spacingInRange (s .spacing)) (marginInRange (s .margin)) (weightInRange (s .weight)) (budgetInRange (s .budget)) e in
+    let r = setting-ranges s e in
     record {
-      masks = within-facts _ _ _ (t .0);
-      spacing = within-facts _ _ _ (t .1);
-      margin = within-facts _ _ _ (t .2);
-      weight = within-facts _ _ _ (t .3);
-      budget = within-facts _ _ _ (t .4);
+      masks = within-facts _ _ _ (r .masks);
+      spacing = within-facts _ _ _ (r .spacing);
+      margin = within-facts _ _ _ (r .margin);
+      weight = within-facts _ _ _ (r .weight);
+      budget = within-facts _ _ _ (r .budget);
     }
 
 pub record PieceFacts (p : Piece) : Type 0 where
@@ -54,19 +88,18 @@ pub record PieceFacts (p : Piece) : Type 0 where
   pub y2 : Within 0 1_000_000 (p .y2)
 
 pub piece-facts : (p : Piece) → pieceInRange p ≡ true → PieceFacts p
-unfolding pieceInRange
 piece-facts p e =
-    let t = five (shapeInRange (p .shape)) (coordinateInRange (p .x1)) (coordinateInRange (p .y1)) (coordinateInRange (p .x2)) (coordinateInRange (p .y2)) e in
+    let r = piece-ranges p e in
     record {
-      shape = within-facts _ _ _ (t .0);
-      x1 = within-facts _ _ _ (t .1);
-      y1 = within-facts _ _ _ (t .2);
-      x2 = within-facts _ _ _ (t .3);
-      y2 = within-facts _ _ _ (t .4);
+      shape = within-facts _ _ _ (r .shape);
+      x1 = within-facts _ _ _ (r .x1);
+      y1 = within-facts _ _ _ (r .y1);
+      x2 = within-facts _ _ _ (r .x2);
+      y2 = within-facts _ _ _ (r .y2);
     }
 
 pub area-facts : (p : Piece) → hasArea p ≡ true → (p .x1 < p .x2) × (p .y1 < p .y2)
 unfolding hasArea
 area-facts p e =
-    let b = and-eq-true-iff (ltb (p .x1) (p .x2)) (ltb (p .y1) (p .y2)) .0 e in
+    let b = both (ltb (p .x1) (p .x2)) (ltb (p .y1) (p .y2)) e in
     (ltb-true (p .x1) (p .x2) (b .0), ltb-true (p .y1) (p .y2) (b .1))

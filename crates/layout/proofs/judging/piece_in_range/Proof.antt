@@ -1,4 +1,4 @@
--- `in_range`: the numbers in the piece's order; the first that is too large decides. Assumes nothing.
+-- `piece_in_range`: the numbers in the piece's order; the first that is too large decides. Assumes nothing.
 use mathlib.Core.Bool.{_&&_}
 use mathlib.Core.Path.{_≡_, sym, _∙_}
 use Prim.Native.Nat.{_≤_}
@@ -6,8 +6,8 @@ use borrow.Author.Tests.{le-leb, lt-leb}
 use lib.Dec.{leb, leb·zero}
 use Rattle.rules.specs.declared.layer.Piece.{Piece}
 use Rattle.rules.specs.Settings.{pieceInRange}
-use Rattle.layout.proofs.judging.in_range.Statement.{statement}
-use Rattle.layout.proofs.judging.in_range.Tie as tie
+use Rattle.layout.proofs.judging.piece_in_range.Statement.{statement}
+use Rattle.layout.proofs.judging.piece_in_range.Tie as tie
 
 -- what is left after three tests
 left : (p : Piece) → p .shape ≤ 511 → p .x1 ≤ 1_000_000 → p .y1 ≤ 1_000_000 → pieceInRange p ≡ (leb (p .x2) 1_000_000 && leb (p .y2) 1_000_000)
@@ -32,5 +32,5 @@ returns-4 c = sym (left _ (c .before .before .before .before .before .before .be
 returns-5 : tie.Need-returns-5
 returns-5 c = sym (left _ (c .before .before .before .before .before .before .if1 .left) (c .before .before .before .before .if2 .left) (c .before .before .if3 .left) ∙ rw (lt-leb _ _ (c .if4 .left)))
 
-pub in-range-spec : {M : Type 1} → statement M
-in-range-spec = tie.close (tie.spec returns returns-2 returns-3 returns-4 returns-5)
+pub piece-in-range-spec : {M : Type 1} → statement M
+piece-in-range-spec = tie.close (tie.spec returns returns-2 returns-3 returns-4 returns-5)

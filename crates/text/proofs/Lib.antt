@@ -1,0 +1,19 @@
+-- Laws of the texts, each stated once.
+pub mod Decimal
+pub mod Digits
+pub mod Puts
+pub mod Splits
+pub mod Parts
+pub mod Reading
+pub mod LineForm
+pub mod Ranges
+pub mod SixLines
+pub mod PieceLines
+pub mod Overlapping
+pub mod Layers
+pub mod Written
+pub mod Validity
+pub mod LayerLines
+pub mod Sizes
+pub mod Demand2
+pub mod Laying

@@ -1,0 +1,72 @@
+-- `has_key`: what follows the key in the line is what follows the rest of the key in the rest of the line. Assumes nothing.
+use borrow.Author.Needs.{needs}
+use native.Mathlib.Omega.{arith}
+use mathlib.Core.Path.{_≡_, refl}
+use Prim.Native.Nat.{_-_, _≤_}
+use lib.ListN.{length, drop}
+use Rattle.rules.specs.LayerText.{afterKey}
+use Rattle.text.proofs.Splits.{key-short, key-on, key-differs, key-whole}
+use Rattle.text.proofs.lines.has_key.Statement.{statement}
+use Rattle.text.proofs.lines.has_key.Tie as tie
+use Rattle.text.proofs.lines.has_key.Reads as reads
+use Rattle.text.proofs.lines.has_key.Lts as lts
+
+abbrev Inv-loop : tie.InvT-loop
+Inv-loop line key i₀ i = (i ≤ length key) × (length key ≤ length line) × (afterKey key line ≡ afterKey (drop i key) (drop i line))
+
+abbrev μ-loop : tie.MeasureT-loop
+μ-loop line key i₀ i = length key - i
+
+-- src/lines.rt:35:9
+returns : tie.Need-returns Inv-loop μ-loop
+returns c = key-short _ _ (c .if1 .taken)
+
+-- src/lines.rt:38:5
+loop-holds : tie.Need-loop-holds Inv-loop μ-loop
+loop-holds c = (omega arith, omega arith, refl)
+
+-- src/lines.rt:39:12
+shared-slice-read-if2 : tie.Need-shared-slice-read-if2 Inv-loop μ-loop
+shared-slice-read-if2 c = search needs
+
+-- src/lines.rt:39:22
+shared-slice-read-if2-2 : tie.Need-shared-slice-read-if2-2 Inv-loop μ-loop
+shared-slice-read-if2-2 c = search needs
+
+-- src/lines.rt:40:13
+returns-2 : tie.Need-returns-2 Inv-loop μ-loop
+returns-2 c = key-differs _ _ _ (c .before .before .before .before .loop .inv .2) (c .before .before .before .before .loop .inv .1) (c .before .before .before .loop-test .taken) (c .if2 .taken)
+
+-- src/lines.rt:42:9
+add-i : tie.Need-add-i Inv-loop μ-loop
+add-i c = search needs
+
+-- src/lines.rt:38:5
+loop-less : tie.Need-loop-less Inv-loop μ-loop
+loop-less c = search needs
+
+-- src/lines.rt:38:5
+loop-again : tie.Need-loop-again Inv-loop μ-loop
+loop-again c = (omega arith, omega arith, key-on _ _ _ (c .before .before .before .before .loop .inv .2) (c .before .before .before .before .loop .inv .1) (c .before .before .before .loop-test .taken) (c .if2 .left))
+
+-- src/lines.rt:31:1
+returns-3 : tie.Need-returns-3 Inv-loop μ-loop
+returns-3 c =
+    let whole : c .before .loop .i ≡ length (c .before .before .before .args .key .now) = omega arith in
+    key-whole _ _ _ (c .before .loop .inv .2) (c .before .loop .inv .1) whole
+
+pub has-key-spec : {M : Type 1} → statement M
+has-key-spec =
+    tie.close
+    (tie.spec
+    Inv-loop
+    μ-loop
+    returns
+    loop-holds
+    shared-slice-read-if2
+    shared-slice-read-if2-2
+    returns-2
+    add-i
+    loop-less
+    loop-again
+    returns-3)

@@ -1,0 +1,5 @@
+pub mod Numeral
+pub mod Lines
+pub mod Header
+pub mod Pieces
+pub mod Writing
