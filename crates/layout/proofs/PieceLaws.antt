@@ -1,12 +1,13 @@
 -- Pieces as numbers: the list of the first n has n pieces, its piece i is the piece with number i, and so the questions of the list
 -- are those of the numbers, and numbers that state a valid layer are in range. Assumes nothing.
 use mathlib.Core.Bool.{true, not}
-use mathlib.Core.List.{List}
-use mathlib.Core.Path.{_≡_, ap, ap₂, _∙_}
-use Prim.Native.Nat.{ℕ, _≤_, _<_}
+use mathlib.Core.List.{List, [], _∷_, _++_, map, map-append}
+use mathlib.Core.Path.{_≡_, sym, ap, ap₂, _∙_}
+use Prim.Native.Nat.{ℕ, zero, suc, _+_, _-_, _≤_, _<_}
 use native.Mathlib.Omega.{arith}
 use lib.Dec.{leb, leb·zero}
-use lib.ListN.{length, length-map}
+use lib.ListN.{length, take, length-map}
+use lib.Seq.{take-all, take-append-le}
 use borrow.Author.Tests.{le-leb, lt-leb, leb-true}
 use Rattle.rules.specs.declared.layer.Settings.{Settings}
 use Rattle.rules.specs.declared.layer.Piece.{Piece}
@@ -19,11 +20,30 @@ use Rattle.rules.proofs.Validity.{valid-sound}
 use Rattle.layout.specs.Flat.{pieceOf, piecesOf}
 use Rattle.rules.proofs.Tests.{and-right}
 use Rattle.rules.proofs.Outcomes.{each-ext}
-use Rattle.rules.proofs.Lists.{any-ext, length-upTo, mapped-upTo}
+use Rattle.rules.proofs.Lists.{any-ext, length-upTo, upTo-snoc, mapped-upTo}
 
 pub pieces-length : (flat : List ℕ) (n : ℕ) → length (piecesOf flat n) ≡ n
 unfolding piecesOf
 pieces-length flat n = length-map (upTo n) (pieceOf flat) ∙ length-upTo n
+
+-- one piece more
+pub pieces-snoc : (flat : List ℕ) (n : ℕ) → piecesOf flat (suc n) ≡ piecesOf flat n ++ (pieceOf flat n ∷ [])
+unfolding piecesOf
+pieces-snoc flat n = ap (map (pieceOf flat)) (upTo-snoc n) ∙ map-append (pieceOf flat) (upTo n) (n ∷ [])
+
+-- the first k of n
+pub pieces-first : (flat : List ℕ) (k n : ℕ) → k ≤ n → take k (piecesOf flat n) ≡ piecesOf flat k
+pieces-first flat k n h =
+    let all : k + (n - k) ≡ n = omega arith in
+    ap (λ (m : ℕ). take k (piecesOf flat m)) (sym all) ∙ go (n - k)
+  where
+    go : (j : ℕ) → take k (piecesOf flat (k + j)) ≡ piecesOf flat k
+    go zero =
+        let none-more : k + zero ≡ k = omega arith in
+        rw none-more (take-all k (piecesOf flat k) (omega (arith, pieces-length flat k)))
+    go (suc j) =
+        let one-more : k + suc j ≡ suc (k + j) = omega arith in
+        rw (one-more, pieces-snoc flat (k + j)) (take-append-le k (piecesOf flat (k + j)) (pieceOf flat (k + j) ∷ []) (omega (arith, pieces-length flat (k + j))) ∙ go j)
 
 pub piece-of : (flat : List ℕ) (n i : ℕ) → i < n → pieceAt (piecesOf flat n) i ≡ pieceOf flat i
 unfolding piecesOf

@@ -2,7 +2,7 @@
 ghost use mathlib.Core.List.{[], _∷_};
 ghost use mathlib.Core.Bool.{true};
 ghost use mathlib.Core.Path.{_≡_};
-ghost use Prim.Native.Nat.{_+_, _*_};
+ghost use Prim.Native.Nat.{_*_, _≤_};
 ghost use Rattle.rules.specs.Answers.{edgeAnswer};
 ghost use Rattle.rules.specs.Calls.{edgeBetween};
 ghost use Rattle.rules.specs.Settings.{settingsInRange, pieceInRange};
@@ -22,15 +22,24 @@ use rules::Place;
 use rules::Refusal;
 use rules::Settings;
 
-// The squared distance of two pieces. A square of a coordinate does not fit 32 bits.
+// The square of a length. That of the greatest coordinate does not fit 32 bits.
+fn square(x: u32) -> u64
+    requires { ⌜ x ≤ 1000000 ⌝ }
+    ensures { λ r. ⌜ r ≡ x * x ⌝ }
+{
+    let wide = x as u64;
+    wide * wide
+}
+
+// The squared distance of two pieces.
 fn squared_gap(a: Piece, b: Piece) -> u64
     requires { ⌜ pieceInRange a ≡ true ⌝ }
     requires { ⌜ pieceInRange b ≡ true ⌝ }
     ensures { λ r. ⌜ r ≡ squaredGap a b ⌝ }
 {
-    let gx = gap(a.x1, a.x2, b.x1, b.x2) as u64;
-    let gy = gap(a.y1, a.y2, b.y1, b.y2) as u64;
-    gx * gx + gy * gy
+    let gx = gap(a.x1, a.x2, b.x1, b.x2);
+    let gy = gap(a.y1, a.y2, b.y1, b.y2);
+    square(gx) + square(gy)
 }
 
 // Whether a conflict edge joins two pieces.
@@ -43,8 +52,7 @@ pub fn conflict(settings: Settings, a: Piece, b: Piece) -> bool
     if a.shape == b.shape {
         return false;
     }
-    let spacing = settings.spacing as u64;
-    squared_gap(a, b) < spacing * spacing
+    squared_gap(a, b) < square(settings.spacing)
 }
 
 // The length along which two pieces touch.

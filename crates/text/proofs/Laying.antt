@@ -5,17 +5,20 @@ use Prim.Native.Nat.{ℕ, zero, suc, _+_, _-_, _*_, _≤_, _<_}
 use Prim.Native.String.{String}
 use native.Mathlib.Omega.{arith}
 use lib.ListN.{length, getD, take, drop, length-append, length-drop}
-use lib.Seq.{take-append-le, take-all, getD-at, getD-take, length-take-le}
-use borrow.Author.Tests.{le-leb}
+use lib.Seq.{getD-take, getD-drop, length-take-le}
+use borrow.Author.Tests.{le-leb, lt-leb}
 use Rattle.rules.specs.declared.layer.Settings.{Settings}
 use Rattle.rules.specs.declared.layer.Piece.{Piece}
 use Rattle.rules.specs.Calls.{writeLayer}
 use Rattle.rules.specs.Decomposition.{Run}
-use Rattle.rules.specs.Questions.{done, Valid}
+use Rattle.rules.specs.declared.refusal.Place.{Place}
+use Rattle.rules.specs.Questions.{done, refused, judgeLayer, Valid, pieceFrom}
 use Rattle.rules.specs.LayerText.{ascii, line, pieceNumbers, pieceLines, layerText}
 use Rattle.rules.specs.ResultText.{verdictLine, maskLines, resultText}
 use Rattle.rules.specs.Settings.{noPiece}
-use Rattle.text.specs.Writing.{laid, keyLine, pieceIn, piecesOf}
+use Rattle.layout.specs.Flat.{pieceOf, piecesOf}
+use Rattle.layout.proofs.PieceLaws.{pieces-length, pieces-first, piece-of}
+use Rattle.text.specs.Writing.{laid, keyLine}
 use Rattle.text.proofs.LayerLines.{five}
 use Rattle.text.proofs.Puts.{laid-next, laid-room, six-size}
 
@@ -53,35 +56,18 @@ unfolding pieceLines laid pieceLine
 piece-laid [] = refl
 piece-laid (p ∷ ps) = ap (λ (l : List ℕ). line "piece=" (pieceNumbers p) ++ l) (piece-laid ps)
 
+-- a piece is stated by five numbers in a row
+stated : (numbers : List ℕ) (k : ℕ) → pieceOf numbers k ≡ pieceFrom (take 5 (drop (5 * k) numbers))
+unfolding pieceOf
+stated numbers k = λ i. record { shape = first i; x1 = at 1 (omega arith) i; y1 = at 2 (omega arith) i; x2 = at 3 (omega arith) i; y2 = at 4 (omega arith) i }
+  where
+    at : (j : ℕ) → j < 5 → getD numbers (5 * k + j) 0 ≡ getD (take 5 (drop (5 * k) numbers)) j 0
+    at j l = sym (getD-take 5 (drop (5 * k) numbers) j 0 l ∙ getD-drop (5 * k) numbers j 0)
+
+    first : getD numbers (5 * k) 0 ≡ getD (take 5 (drop (5 * k) numbers)) 0 0
+    first = ap (λ (n : ℕ). getD numbers n 0) (let e : 5 * k ≡ 5 * k + 0 = omega arith in e) ∙ at 0 (omega arith)
+
 module _ (numbers : List ℕ) where
-  pub pieces-count : (n : ℕ) → length (piecesOf numbers n) ≡ n
-  unfolding piecesOf
-  pieces-count zero = refl
-  pieces-count (suc n) = length-append (piecesOf numbers n) (pieceIn numbers n ∷ []) ∙ omega (arith, pieces-count n)
-
-  -- the first k of n
-  pieces-take : (k j : ℕ) → take k (piecesOf numbers (k + j)) ≡ piecesOf numbers k
-  unfolding piecesOf
-  pieces-take k zero =
-      let none-more : k + zero ≡ k = omega arith in
-      rw none-more (take-all k (piecesOf numbers k) (omega (arith, pieces-count k)))
-  pieces-take k (suc j) =
-      let one-more : k + suc j ≡ suc (k + j) = omega arith in
-      rw one-more (take-append-le k (piecesOf numbers (k + j)) (pieceIn numbers (k + j) ∷ []) (omega (arith, pieces-count (k + j))) ∙ pieces-take k j)
-
-  first-pieces : (k n : ℕ) → k ≤ n → take k (piecesOf numbers n) ≡ piecesOf numbers k
-  first-pieces k n h =
-      let all : k + (n - k) ≡ n = omega arith in
-      ap (λ (m : ℕ). take k (piecesOf numbers m)) (sym all) ∙ pieces-take k (n - k)
-
-  -- the piece that comes next
-  piece-next : (k n : ℕ) → k < n → getD (piecesOf numbers n) k noPiece ≡ pieceIn numbers k
-  unfolding piecesOf
-  piece-next k n h =
-      sym (getD-take (suc k) (piecesOf numbers n) k noPiece (omega arith))
-      ∙ ap (λ (l : List Piece). getD l k noPiece) (first-pieces (suc k) n h)
-      ∙ getD-at (piecesOf numbers k) (pieceIn numbers k) [] noPiece k (pieces-count k)
-
   module _ (k n : ℕ) (h : k < n) (room : 5 * n ≤ length numbers) where
     abbrev five-numbers : List ℕ
     five-numbers = take 5 (drop (5 * k) numbers)
@@ -91,17 +77,17 @@ module _ (numbers : List ℕ) where
 
     next-line : pieceLine (getD (piecesOf numbers n) k noPiece) ≡ keyLine (ascii "piece=") five-numbers
     unfolding pieceLine keyLine
-    next-line = ap (λ (p : Piece). line "piece=" (pieceNumbers p)) (piece-next k n h) ∙ ap (line "piece=") (five five-numbers five-there)
+    next-line = ap (λ (p : Piece). line "piece=" (pieceNumbers p)) (piece-of numbers n k h ∙ stated numbers k) ∙ ap (line "piece=") (five five-numbers five-there)
 
     inside : k < length (piecesOf numbers n)
-    inside = omega (arith, pieces-count n)
+    inside = omega (arith, pieces-length numbers n)
 
     pub pieces-next : pieceLines (piecesOf numbers (k + 1)) ≡ pieceLines (piecesOf numbers k) ++ keyLine (ascii "piece=") five-numbers
     pieces-next =
-        ap pieceLines (sym (first-pieces (k + 1) n (omega arith)))
+        ap pieceLines (sym (pieces-first numbers (k + 1) n (omega arith)))
         ∙ piece-laid (take (k + 1) (piecesOf numbers n))
         ∙ laid-next pieceLine noPiece (piecesOf numbers n) k inside
-        ∙ ap (λ (l : List ℕ). l ++ pieceLine (getD (piecesOf numbers n) k noPiece)) (sym (piece-laid (take k (piecesOf numbers n))) ∙ ap pieceLines (first-pieces k n (omega arith)))
+        ∙ ap (λ (l : List ℕ). l ++ pieceLine (getD (piecesOf numbers n) k noPiece)) (sym (piece-laid (take k (piecesOf numbers n))) ∙ ap pieceLines (pieces-first numbers k n (omega arith)))
         ∙ ap (λ (l : List ℕ). pieceLines (piecesOf numbers k) ++ l) next-line
 
     pub pieces-room : length (pieceLines (piecesOf numbers k)) + length (keyLine (ascii "piece=") five-numbers) ≤ length (pieceLines (piecesOf numbers n))
@@ -109,7 +95,7 @@ module _ (numbers : List ℕ) where
         omega (
           arith,
           laid-room pieceLine noPiece (piecesOf numbers n) k inside,
-          ap length (sym (piece-laid (take k (piecesOf numbers n))) ∙ ap pieceLines (first-pieces k n (omega arith))),
+          ap length (sym (piece-laid (take k (piecesOf numbers n))) ∙ ap pieceLines (pieces-first numbers k n (omega arith))),
           ap length next-line,
           ap length (piece-laid (piecesOf numbers n)),
         )
@@ -162,3 +148,13 @@ module _ (s : Settings) (ps : List Piece) where
   pub valid-writes : (buffer : List ℕ) → 32_768 ≤ length buffer → Valid s ps → writeLayer s ps buffer ≡ done (layerText s ps)
   unfolding writeLayer
   valid-writes buffer h valid = rw (le-leb 32_768 (length buffer) h, writeLayer) (rw valid)
+
+  -- and what it comes to where a question is answered with no
+  pub small-writes : (buffer : List ℕ) → length buffer < 32_768 → writeLayer s ps buffer ≡ refused 1 Place.Nothing
+  unfolding writeLayer
+  small-writes buffer h = rw (lt-leb 32_768 (length buffer) h)
+
+  pub refused-writes : (buffer : List ℕ) → 32_768 ≤ length buffer → {number : ℕ} {place : Place} → judgeLayer s ps ≡ refused number place
+      → writeLayer s ps buffer ≡ refused number place
+  unfolding writeLayer
+  refused-writes buffer h e = rw (le-leb 32_768 (length buffer) h, e)

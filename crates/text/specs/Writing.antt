@@ -4,11 +4,9 @@ use mathlib.Core.Path.{_≡_}
 use Prim.Native.Nat.{ℕ, zero, suc, _+_, _*_}
 use lib.ListN.{length, take, drop}
 use lib.Seq.{sets}
-use Rattle.rules.specs.declared.layer.Piece.{Piece}
 use Rattle.rules.specs.declared.answers.Decomposition.{Decomposition}
 use Rattle.rules.specs.Decomposition.{Run}
 use Rattle.rules.specs.LayerText.{newline, comma, decimal, commaList}
-use Rattle.rules.specs.Questions.{pieceFrom}
 
 -- a text was stored from a place on, and the next place is after it
 pub record Put (buffer : List ℕ) (at : ℕ) (text : List ℕ) (next : ℕ) (after : List ℕ) : Type 0 where
@@ -38,11 +36,3 @@ runOf d masks = record {
   steps = d .steps;
   verdict = d .verdict;
 }
-
--- the piece that five numbers state, and the first n pieces
-abbrev pub pieceIn : List ℕ → ℕ → Piece
-pieceIn numbers i = pieceFrom (take 5 (drop (5 * i) numbers))
-
-unfoldable pub piecesOf : List ℕ → ℕ → List Piece
-piecesOf numbers zero = []
-piecesOf numbers (suc n) = piecesOf numbers n ++ (pieceIn numbers n ∷ [])

@@ -10,7 +10,7 @@ mod read;
 mod result;
 mod write;
 
-pub use layer::write_layer_text;
+pub use layer::write_layer;
 pub use lines::LineEnd;
 pub use lines::line_end;
 pub use numbers::Numeral;

@@ -1,4 +1,4 @@
--- `squared_gap`: gaps are at most the greatest coordinate, so the squares and their sum fit 64 bits. Assumes nothing.
+-- `squared_gap`: gaps are at most the greatest coordinate, so the sum of their squares fits. Assumes nothing.
 use borrow.Author.Needs.{needs}
 use Prim.Native.Nat.{_≤_}
 use native.Mathlib.Omega.{arith}
@@ -11,14 +11,8 @@ use Rattle.layout.proofs.edges.squared_gap.Tie as tie
 gap-requires : tie.Need-gap-requires
 gap-requires c κs = search needs
 
-cast-gx : tie.Need-cast-gx
-cast-gx c = search needs
-
 gap-requires-2 : tie.Need-gap-requires-2
 gap-requires-2 c κs = search needs
-
-cast-gy : tie.Need-cast-gy
-cast-gy c = search needs
 
 -- both gaps are small
 small : (c : tie.After-gap2) → (c .before .gap .result ≤ 1_000_000) × (c .gap2 .result ≤ 1_000_000)
@@ -27,20 +21,19 @@ small c =
     let b = piece-facts _ (c .before .before .pre .1) in
     (omega (arith, c .before .gap .ensures), omega (arith, c .gap2 .ensures))
 
-mul-result : tie.Need-mul-result
-mul-result c = omega (arith, square (small c .0))
+square-requires : tie.Need-square-requires
+square-requires c κs = small c .0
 
-mul-result-2 : tie.Need-mul-result-2
-mul-result-2 c = omega (arith, square (small c .1))
+square-requires-2 : tie.Need-square-requires-2
+square-requires-2 c κs = small (c .before) .1
 
 add-result : tie.Need-add-result
-add-result c = omega (arith, square (small c .0), square (small c .1))
+add-result c = omega (arith, square (small (c .before .before) .0), square (small (c .before .before) .1), c .before .square .ensures, c .square2 .ensures)
 
 returns : tie.Need-returns
 unfolding squaredGap gapX gapY
-returns c = rw (c .before .gap .ensures, c .gap2 .ensures)
+returns c = rw (c .before .square .ensures, c .square2 .ensures, c .before .before .before .gap .ensures, c .before .before .gap2 .ensures)
 
 pub squared-gap-spec : {M : Type 1} → statement M
 squared-gap-spec =
-    tie.close
-    (tie.spec gap-requires cast-gx gap-requires-2 cast-gy mul-result mul-result-2 add-result returns)
+    tie.close (tie.spec gap-requires gap-requires-2 square-requires square-requires-2 add-result returns)

@@ -10,9 +10,6 @@ use Rattle.text.proofs.Reading.{part-from}
 use Rattle.text.proofs.SixLines.{Read, read-start, read-on, read-stop, count-on, read-end}
 use Rattle.text.proofs.header.read_header.Statement.{statement}
 use Rattle.text.proofs.header.read_header.Tie as tie
-use Rattle.text.proofs.header.read_header.Reads as reads
-use Rattle.text.proofs.header.read_header.Lts as lts
-use Rattle.text.proofs.header.read_setting.Reads as read-setting-reads
 
 abbrev Inv-loop : tie.InvT-loop
 Inv-loop text values₀ at₀ i₀ values at i = (i ≤ 6) × (at ≤ length text) × (length values ≡ 6) × Read text values at i × (6 ≤ i → getD values 5 0 ≤ 512)
@@ -20,39 +17,30 @@ Inv-loop text values₀ at₀ i₀ values at i = (i ≤ 6) × (at ≤ length tex
 abbrev μ-loop : tie.MeasureT-loop
 μ-loop text values₀ at₀ i₀ values at i = 6 - i
 
--- src/header.rt:84:5
 loop-holds : tie.Need-loop-holds Inv-loop μ-loop
 loop-holds c = (omega arith, omega arith, refl, read-start _ (0 ∷ 0 ∷ 0 ∷ 0 ∷ 0 ∷ 0 ∷ []), λ h. absurd (omega arith))
 
--- src/header.rt:85:28
 sub-read-setting : tie.Need-sub-read-setting Inv-loop μ-loop
 sub-read-setting c = search needs
 
--- src/header.rt:85:28
 part-read-setting-start : tie.Need-part-read-setting-start Inv-loop μ-loop
 part-read-setting-start c = search needs
 
--- src/header.rt:85:28
 part-read-setting-end : tie.Need-part-read-setting-end Inv-loop μ-loop
 part-read-setting-end c = search needs
 
--- src/header.rt:85:15
 read-setting-requires : tie.Need-read-setting-requires Inv-loop μ-loop
 read-setting-requires c κs = search needs
 
--- src/header.rt:86:32
 enum-known-number : tie.Need-enum-known-number Inv-loop μ-loop
 enum-known-number c = search needs
 
--- src/header.rt:87:17
 mul-values : tie.Need-mul-values Inv-loop μ-loop
 mul-values c = search needs
 
--- src/header.rt:87:17
 array-write-values : tie.Need-array-write-values Inv-loop μ-loop
 array-write-values c = search needs
 
--- src/header.rt:88:17
 add-at : tie.Need-add-at Inv-loop μ-loop
 add-at c =
     let text = c .before .before .before .before .before .before .before .before .args .text .now in
@@ -61,15 +49,12 @@ add-at c =
     let bytes = ap lineBytes (c .before .number .given .1) in
     omega (arith, found, bytes, ap length (part-from text at), length-drop at text)
 
--- src/header.rt:89:17
 add-i : tie.Need-add-i Inv-loop μ-loop
 add-i c = search needs
 
--- src/header.rt:84:5
 loop-less : tie.Need-loop-less Inv-loop μ-loop
 loop-less c = search needs
 
--- src/header.rt:84:5
 loop-again : tie.Need-loop-again Inv-loop μ-loop
 loop-again c =
     let text = c .before .before .before .before .before .before .before .before .args .text .now in
@@ -89,19 +74,15 @@ loop-again c =
       count-on text values at i (inv .3) r found _ _ turn room told,
     )
 
--- src/header.rt:91:33
 enum-known-question : tie.Need-enum-known-question Inv-loop μ-loop
 enum-known-question c = search needs
 
--- src/header.rt:92:51
 cast-t19 : tie.Need-cast-t19 Inv-loop μ-loop
 cast-t19 c = search needs
 
--- src/header.rt:92:50
 add-t20 : tie.Need-add-t20 Inv-loop μ-loop
 add-t20 c = search needs
 
--- src/header.rt:92:17
 returns : tie.Need-returns Inv-loop μ-loop
 returns c =
     let text = c .before .before .before .before .before .before .before .before .args .text .now in
@@ -117,35 +98,27 @@ returns c =
       few = zero-le;
     }
 
--- src/header.rt:97:16
 array-read-count : tie.Need-array-read-count Inv-loop μ-loop
 array-read-count c = search needs
 
--- src/header.rt:98:18
 array-read-t26 : tie.Need-array-read-t26 Inv-loop μ-loop
 array-read-t26 c = search needs
 
--- src/header.rt:99:17
 array-read-t29 : tie.Need-array-read-t29 Inv-loop μ-loop
 array-read-t29 c = search needs
 
--- src/header.rt:100:17
 array-read-t32 : tie.Need-array-read-t32 Inv-loop μ-loop
 array-read-t32 c = search needs
 
--- src/header.rt:101:17
 array-read-t35 : tie.Need-array-read-t35 Inv-loop μ-loop
 array-read-t35 c = search needs
 
--- src/header.rt:103:17
 array-read-count-2 : tie.Need-array-read-count-2 Inv-loop μ-loop
 array-read-count-2 c = search needs
 
--- src/header.rt:103:17
 cast-count : tie.Need-cast-count Inv-loop μ-loop
 cast-count c = omega (arith, c .before .loop .inv .4 (omega arith))
 
--- src/header.rt:78:1
 returns-2 : tie.Need-returns-2 Inv-loop μ-loop
 returns-2 c =
     let inv = c .before .loop .inv in

@@ -5,34 +5,24 @@ use mathlib.Core.Path.{sym, _∙_}
 use Rattle.text.proofs.Ranges.{number-bad-form, number-out, number-in}
 use Rattle.text.proofs.header.read_number.Statement.{statement}
 use Rattle.text.proofs.header.read_number.Tie as tie
-use Rattle.text.proofs.header.read_number.Reads as reads
-use Rattle.text.proofs.header.read_number.Lts as lts
-use Rattle.rules.proofs.in_limits.Reads as in-limits-reads
-use Rattle.text.proofs.lines.read_line.Reads as read-line-reads
 
--- src/header.rt:22:16
 read-line-requires : tie.Need-read-line-requires
 read-line-requires c κs = search needs
 
--- src/header.rt:24:9
 returns : tie.Need-returns
 returns c = number-bad-form _ _ _ _ (c .before .before .before .before .pre) (c .before .read-line .result) (c .before .read-line .ensures) (not-true (c .before .read-line .result .good) (c .if1 .taken))
 
--- src/header.rt:26:18
 element-copy-out-number : tie.Need-element-copy-out-number
 element-copy-out-number c = search needs
 
--- src/header.rt:27:9
 in-limits-requires : tie.Need-in-limits-requires
 in-limits-requires c κs = search needs
 
--- src/header.rt:28:9
 returns-2 : tie.Need-returns-2
 returns-2 c =
     let line = c .before .before .before .before .read-line in
     number-out _ _ _ _ (c .before .before .before .before .before .before .before .pre) (line .result) (line .ensures) (not-false (line .result .good) (c .before .before .before .if1 .left)) (sym (c .before .in-limits .ensures) ∙ not-true (c .before .in-limits .result) (c .if2 .taken))
 
--- src/header.rt:18:1
 returns-3 : tie.Need-returns-3
 returns-3 c =
     let line = c .before .before .before .before .read-line in

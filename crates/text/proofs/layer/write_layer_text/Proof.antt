@@ -7,133 +7,115 @@ use Prim.Native.Nat.{ℕ}
 use lib.ListN.{length}
 use Rattle.rules.specs.LayerText.{ascii, pieceLines, layerText}
 use Rattle.rules.specs.Questions.{done}
-use Rattle.text.specs.Writing.{Put, keyLine, piecesOf}
+use Rattle.layout.specs.Flat.{piecesOf}
+use Rattle.layout.proofs.PieceLaws.{pieces-length}
+use Rattle.text.specs.Writing.{Put, keyLine}
 use Rattle.rules.proofs.Ranges.{within-facts}
 use Rattle.text.proofs.Validity.{valid-fine}
 use Rattle.text.proofs.Sizes.{layer-length}
 use Rattle.text.proofs.Puts.{put-six, put-on, put-front}
-use Rattle.text.proofs.Laying.{pieces-count, layer-lines, layer-size, valid-writes}
+use Rattle.text.proofs.Laying.{layer-lines, layer-size, valid-writes}
 use Rattle.text.proofs.layer.write_layer_text.Statement.{statement}
 use Rattle.text.proofs.layer.write_layer_text.Tie as tie
-use Rattle.text.proofs.layer.write_layer_text.Reads as reads
-use Rattle.text.proofs.layer.write_layer_text.Lts as lts
-use Rattle.text.proofs.layer.write_pieces.Reads as write-pieces-reads
-use Rattle.text.proofs.write.write_number_line.Reads as write-number-line-reads
 
--- src/layer.rt:34:42
 slice-aggregate-write-number-line : tie.Need-slice-aggregate-write-number-line
 slice-aggregate-write-number-line c = search needs
 
--- src/layer.rt:34:9
 write-number-line-requires : tie.Need-write-number-line-requires
 unfolding ascii
 write-number-line-requires c κs =
     let ps = piecesOf (c .before .before .before .args .numbers .now) (c .before .before .before .args .n) in
     let s = c .before .before .before .args .settings in
-    let count = pieces-count (c .before .before .before .args .numbers .now) (c .before .before .before .args .n) in
+    let count = pieces-length (c .before .before .before .args .numbers .now) (c .before .before .before .args .n) in
     let fine = valid-fine s ps (c .before .before .before .pre .1) in
     omega (arith, layer-size s ps, layer-length s ps fine, c .before .before .before .pre .0, ap (λ (m : ℕ). length (keyLine (ascii "pieces=") (m ∷ []))) count)
 
--- src/layer.rt:35:42
 slice-aggregate-write-number-line-2 : tie.Need-slice-aggregate-write-number-line-2
 slice-aggregate-write-number-line-2 c = search needs
 
--- src/layer.rt:35:9
 write-number-line-requires-2 : tie.Need-write-number-line-requires-2
 unfolding ascii
 write-number-line-requires-2 c κs =
     let ps = piecesOf (c .before .before .before .before .before .before .before .before .args .numbers .now) (c .before .before .before .before .before .before .before .before .args .n) in
     let s = c .before .before .before .before .before .before .before .before .args .settings in
-    let count = pieces-count (c .before .before .before .before .before .before .before .before .args .numbers .now) (c .before .before .before .before .before .before .before .before .args .n) in
+    let count = pieces-length (c .before .before .before .before .before .before .before .before .args .numbers .now) (c .before .before .before .before .before .before .before .before .args .n) in
     let fine = valid-fine s ps (c .before .before .before .before .before .before .before .before .pre .1) in
     omega (arith, layer-size s ps, layer-length s ps fine, c .before .before .before .before .before .before .before .before .pre .0, ap (λ (m : ℕ). length (keyLine (ascii "pieces=") (m ∷ []))) count, c .before .before .before .before .write-number-line .ensures .end, c .before .before .before .before .write-number-line .kept .0)
 
--- src/layer.rt:36:42
 slice-aggregate-write-number-line-3 : tie.Need-slice-aggregate-write-number-line-3
 slice-aggregate-write-number-line-3 c = search needs
 
--- src/layer.rt:36:9
 write-number-line-requires-3 : tie.Need-write-number-line-requires-3
 unfolding ascii
 write-number-line-requires-3 c κs =
     let ps = piecesOf (c .before .before .before .before .before .before .before .before .before .before .before .before .before .args .numbers .now) (c .before .before .before .before .before .before .before .before .before .before .before .before .before .args .n) in
     let s = c .before .before .before .before .before .before .before .before .before .before .before .before .before .args .settings in
-    let count = pieces-count (c .before .before .before .before .before .before .before .before .before .before .before .before .before .args .numbers .now) (c .before .before .before .before .before .before .before .before .before .before .before .before .before .args .n) in
+    let count = pieces-length (c .before .before .before .before .before .before .before .before .before .before .before .before .before .args .numbers .now) (c .before .before .before .before .before .before .before .before .before .before .before .before .before .args .n) in
     let fine = valid-fine s ps (c .before .before .before .before .before .before .before .before .before .before .before .before .before .pre .1) in
     omega (arith, layer-size s ps, layer-length s ps fine, c .before .before .before .before .before .before .before .before .before .before .before .before .before .pre .0, ap (λ (m : ℕ). length (keyLine (ascii "pieces=") (m ∷ []))) count, c .before .before .before .before .before .before .before .before .before .write-number-line .ensures .end, c .before .before .before .before .before .before .before .before .before .write-number-line .kept .0, c .before .before .before .before .write-number-line2 .ensures .end, c .before .before .before .before .write-number-line2 .kept .0)
 
--- src/layer.rt:37:42
 slice-aggregate-write-number-line-4 : tie.Need-slice-aggregate-write-number-line-4
 slice-aggregate-write-number-line-4 c = search needs
 
--- src/layer.rt:37:9
 write-number-line-requires-4 : tie.Need-write-number-line-requires-4
 unfolding ascii
 write-number-line-requires-4 c κs =
     let ps = piecesOf (c .before .before .before .before .before .before .before .before .before .before .before .before .before .before .before .before .before .before .args .numbers .now) (c .before .before .before .before .before .before .before .before .before .before .before .before .before .before .before .before .before .before .args .n) in
     let s = c .before .before .before .before .before .before .before .before .before .before .before .before .before .before .before .before .before .before .args .settings in
-    let count = pieces-count (c .before .before .before .before .before .before .before .before .before .before .before .before .before .before .before .before .before .before .args .numbers .now) (c .before .before .before .before .before .before .before .before .before .before .before .before .before .before .before .before .before .before .args .n) in
+    let count = pieces-length (c .before .before .before .before .before .before .before .before .before .before .before .before .before .before .before .before .before .before .args .numbers .now) (c .before .before .before .before .before .before .before .before .before .before .before .before .before .before .before .before .before .before .args .n) in
     let fine = valid-fine s ps (c .before .before .before .before .before .before .before .before .before .before .before .before .before .before .before .before .before .before .pre .1) in
     omega (arith, layer-size s ps, layer-length s ps fine, c .before .before .before .before .before .before .before .before .before .before .before .before .before .before .before .before .before .before .pre .0, ap (λ (m : ℕ). length (keyLine (ascii "pieces=") (m ∷ []))) count, c .before .before .before .before .before .before .before .before .before .before .before .before .before .before .write-number-line .ensures .end, c .before .before .before .before .before .before .before .before .before .before .before .before .before .before .write-number-line .kept .0, c .before .before .before .before .before .before .before .before .before .write-number-line2 .ensures .end, c .before .before .before .before .before .before .before .before .before .write-number-line2 .kept .0, c .before .before .before .before .write-number-line3 .ensures .end, c .before .before .before .before .write-number-line3 .kept .0)
 
--- src/layer.rt:38:42
 slice-aggregate-write-number-line-5 : tie.Need-slice-aggregate-write-number-line-5
 slice-aggregate-write-number-line-5 c = search needs
 
--- src/layer.rt:38:9
 write-number-line-requires-5 : tie.Need-write-number-line-requires-5
 unfolding ascii
 write-number-line-requires-5 c κs =
     let ps = piecesOf (c .before .before .before .before .before .before .before .before .before .before .before .before .before .before .before .before .before .before .before .before .before .before .before .args .numbers .now) (c .before .before .before .before .before .before .before .before .before .before .before .before .before .before .before .before .before .before .before .before .before .before .before .args .n) in
     let s = c .before .before .before .before .before .before .before .before .before .before .before .before .before .before .before .before .before .before .before .before .before .before .before .args .settings in
-    let count = pieces-count (c .before .before .before .before .before .before .before .before .before .before .before .before .before .before .before .before .before .before .before .before .before .before .before .args .numbers .now) (c .before .before .before .before .before .before .before .before .before .before .before .before .before .before .before .before .before .before .before .before .before .before .before .args .n) in
+    let count = pieces-length (c .before .before .before .before .before .before .before .before .before .before .before .before .before .before .before .before .before .before .before .before .before .before .before .args .numbers .now) (c .before .before .before .before .before .before .before .before .before .before .before .before .before .before .before .before .before .before .before .before .before .before .before .args .n) in
     let fine = valid-fine s ps (c .before .before .before .before .before .before .before .before .before .before .before .before .before .before .before .before .before .before .before .before .before .before .before .pre .1) in
     omega (arith, layer-size s ps, layer-length s ps fine, c .before .before .before .before .before .before .before .before .before .before .before .before .before .before .before .before .before .before .before .before .before .before .before .pre .0, ap (λ (m : ℕ). length (keyLine (ascii "pieces=") (m ∷ []))) count, c .before .before .before .before .before .before .before .before .before .before .before .before .before .before .before .before .before .before .before .write-number-line .ensures .end, c .before .before .before .before .before .before .before .before .before .before .before .before .before .before .before .before .before .before .before .write-number-line .kept .0, c .before .before .before .before .before .before .before .before .before .before .before .before .before .before .write-number-line2 .ensures .end, c .before .before .before .before .before .before .before .before .before .before .before .before .before .before .write-number-line2 .kept .0, c .before .before .before .before .before .before .before .before .before .write-number-line3 .ensures .end, c .before .before .before .before .before .before .before .before .before .write-number-line3 .kept .0, c .before .before .before .before .write-number-line4 .ensures .end, c .before .before .before .before .write-number-line4 .kept .0)
 
--- src/layer.rt:39:42
 slice-aggregate-write-number-line-6 : tie.Need-slice-aggregate-write-number-line-6
 slice-aggregate-write-number-line-6 c = search needs
 
--- src/layer.rt:39:54
 cast-write-number-line : tie.Need-cast-write-number-line
 cast-write-number-line c =
     let ps = piecesOf (c .before .before .before .before .before .before .before .before .before .before .before .before .before .before .before .before .before .before .before .before .before .before .before .before .before .before .before .before .args .numbers .now) (c .before .before .before .before .before .before .before .before .before .before .before .before .before .before .before .before .before .before .before .before .before .before .before .before .before .before .before .before .args .n) in
     let s = c .before .before .before .before .before .before .before .before .before .before .before .before .before .before .before .before .before .before .before .before .before .before .before .before .before .before .before .before .args .settings in
-    let count = pieces-count (c .before .before .before .before .before .before .before .before .before .before .before .before .before .before .before .before .before .before .before .before .before .before .before .before .before .before .before .before .args .numbers .now) (c .before .before .before .before .before .before .before .before .before .before .before .before .before .before .before .before .before .before .before .before .before .before .before .before .before .before .before .before .args .n) in
+    let count = pieces-length (c .before .before .before .before .before .before .before .before .before .before .before .before .before .before .before .before .before .before .before .before .before .before .before .before .before .before .before .before .args .numbers .now) (c .before .before .before .before .before .before .before .before .before .before .before .before .before .before .before .before .before .before .before .before .before .before .before .before .before .before .before .before .args .n) in
     let fine = valid-fine s ps (c .before .before .before .before .before .before .before .before .before .before .before .before .before .before .before .before .before .before .before .before .before .before .before .before .before .before .before .before .pre .1) in
     omega (arith, count, within-facts 0 512 (length ps) (fine .count) .high)
 
--- src/layer.rt:39:9
 write-number-line-requires-6 : tie.Need-write-number-line-requires-6
 unfolding ascii
 write-number-line-requires-6 c κs =
     let ps = piecesOf (c .before .before .before .before .before .before .before .before .before .before .before .before .before .before .before .before .before .before .before .before .before .before .before .before .before .before .before .before .args .numbers .now) (c .before .before .before .before .before .before .before .before .before .before .before .before .before .before .before .before .before .before .before .before .before .before .before .before .before .before .before .before .args .n) in
     let s = c .before .before .before .before .before .before .before .before .before .before .before .before .before .before .before .before .before .before .before .before .before .before .before .before .before .before .before .before .args .settings in
-    let count = pieces-count (c .before .before .before .before .before .before .before .before .before .before .before .before .before .before .before .before .before .before .before .before .before .before .before .before .before .before .before .before .args .numbers .now) (c .before .before .before .before .before .before .before .before .before .before .before .before .before .before .before .before .before .before .before .before .before .before .before .before .before .before .before .before .args .n) in
+    let count = pieces-length (c .before .before .before .before .before .before .before .before .before .before .before .before .before .before .before .before .before .before .before .before .before .before .before .before .before .before .before .before .args .numbers .now) (c .before .before .before .before .before .before .before .before .before .before .before .before .before .before .before .before .before .before .before .before .before .before .before .before .before .before .before .before .args .n) in
     let fine = valid-fine s ps (c .before .before .before .before .before .before .before .before .before .before .before .before .before .before .before .before .before .before .before .before .before .before .before .before .before .before .before .before .pre .1) in
     omega (arith, layer-size s ps, layer-length s ps fine, c .before .before .before .before .before .before .before .before .before .before .before .before .before .before .before .before .before .before .before .before .before .before .before .before .before .before .before .before .pre .0, ap (λ (m : ℕ). length (keyLine (ascii "pieces=") (m ∷ []))) count, c .before .before .before .before .before .before .before .before .before .before .before .before .before .before .before .before .before .before .before .before .before .before .before .before .write-number-line .ensures .end, c .before .before .before .before .before .before .before .before .before .before .before .before .before .before .before .before .before .before .before .before .before .before .before .before .write-number-line .kept .0, c .before .before .before .before .before .before .before .before .before .before .before .before .before .before .before .before .before .before .before .write-number-line2 .ensures .end, c .before .before .before .before .before .before .before .before .before .before .before .before .before .before .before .before .before .before .before .write-number-line2 .kept .0, c .before .before .before .before .before .before .before .before .before .before .before .before .before .before .write-number-line3 .ensures .end, c .before .before .before .before .before .before .before .before .before .before .before .before .before .before .write-number-line3 .kept .0, c .before .before .before .before .before .before .before .before .before .write-number-line4 .ensures .end, c .before .before .before .before .before .before .before .before .before .write-number-line4 .kept .0, c .before .before .before .before .write-number-line5 .ensures .end, c .before .before .before .before .write-number-line5 .kept .0)
 
--- src/layer.rt:40:5
 write-pieces-requires : tie.Need-write-pieces-requires
 unfolding ascii
 write-pieces-requires c κs =
     let ps = piecesOf (c .before .before .before .before .before .before .before .before .before .before .before .before .before .before .before .before .before .before .before .before .before .before .before .before .before .before .before .before .before .before .before .before .before .args .numbers .now) (c .before .before .before .before .before .before .before .before .before .before .before .before .before .before .before .before .before .before .before .before .before .before .before .before .before .before .before .before .before .before .before .before .before .args .n) in
     let s = c .before .before .before .before .before .before .before .before .before .before .before .before .before .before .before .before .before .before .before .before .before .before .before .before .before .before .before .before .before .before .before .before .before .args .settings in
-    let count = pieces-count (c .before .before .before .before .before .before .before .before .before .before .before .before .before .before .before .before .before .before .before .before .before .before .before .before .before .before .before .before .before .before .before .before .before .args .numbers .now) (c .before .before .before .before .before .before .before .before .before .before .before .before .before .before .before .before .before .before .before .before .before .before .before .before .before .before .before .before .before .before .before .before .before .args .n) in
+    let count = pieces-length (c .before .before .before .before .before .before .before .before .before .before .before .before .before .before .before .before .before .before .before .before .before .before .before .before .before .before .before .before .before .before .before .before .before .args .numbers .now) (c .before .before .before .before .before .before .before .before .before .before .before .before .before .before .before .before .before .before .before .before .before .before .before .before .before .before .before .before .before .before .before .before .before .args .n) in
     let fine = valid-fine s ps (c .before .before .before .before .before .before .before .before .before .before .before .before .before .before .before .before .before .before .before .before .before .before .before .before .before .before .before .before .before .before .before .before .before .pre .1) in
     (omega (arith, count, within-facts 0 512 (length ps) (fine .count) .high, c .write-pieces-arg2 .given .0), omega (arith, layer-size s ps, layer-length s ps fine, c .before .before .before .before .before .before .before .before .before .before .before .before .before .before .before .before .before .before .before .before .before .before .before .before .before .before .before .before .before .before .before .before .before .pre .0, ap (λ (m : ℕ). length (keyLine (ascii "pieces=") (m ∷ []))) count, c .before .before .before .before .before .before .before .before .before .before .before .before .before .before .before .before .before .before .before .before .before .before .before .before .before .before .before .before .before .write-number-line .ensures .end, c .before .before .before .before .before .before .before .before .before .before .before .before .before .before .before .before .before .before .before .before .before .before .before .before .before .before .before .before .before .write-number-line .kept .0, c .before .before .before .before .before .before .before .before .before .before .before .before .before .before .before .before .before .before .before .before .before .before .before .before .write-number-line2 .ensures .end, c .before .before .before .before .before .before .before .before .before .before .before .before .before .before .before .before .before .before .before .before .before .before .before .before .write-number-line2 .kept .0, c .before .before .before .before .before .before .before .before .before .before .before .before .before .before .before .before .before .before .before .write-number-line3 .ensures .end, c .before .before .before .before .before .before .before .before .before .before .before .before .before .before .before .before .before .before .before .write-number-line3 .kept .0, c .before .before .before .before .before .before .before .before .before .before .before .before .before .before .write-number-line4 .ensures .end, c .before .before .before .before .before .before .before .before .before .before .before .before .before .before .write-number-line4 .kept .0, c .before .before .before .before .before .before .before .before .before .write-number-line5 .ensures .end, c .before .before .before .before .before .before .before .before .before .write-number-line5 .kept .0, c .before .before .before .before .write-number-line6 .ensures .end, c .before .before .before .before .write-number-line6 .kept .0))
 
--- src/layer.rt:30:1
 same-length : tie.Need-same-length
 same-length c = c .before .before .write-pieces .kept .0 ∙ c .before .before .before .before .before .before .before .write-number-line6 .kept .0 ∙ c .before .before .before .before .before .before .before .before .before .before .before .before .write-number-line5 .kept .0 ∙ c .before .before .before .before .before .before .before .before .before .before .before .before .before .before .before .before .before .write-number-line4 .kept .0 ∙ c .before .before .before .before .before .before .before .before .before .before .before .before .before .before .before .before .before .before .before .before .before .before .write-number-line3 .kept .0 ∙ c .before .before .before .before .before .before .before .before .before .before .before .before .before .before .before .before .before .before .before .before .before .before .before .before .before .before .before .write-number-line2 .kept .0 ∙ c .before .before .before .before .before .before .before .before .before .before .before .before .before .before .before .before .before .before .before .before .before .before .before .before .before .before .before .before .before .before .before .before .write-number-line .kept .0
 
--- src/layer.rt:30:1
 returns : tie.Need-returns
 unfolding ascii
 returns c =
     let ps = piecesOf (c .before .before .before .before .before .before .before .before .before .before .before .before .before .before .before .before .before .before .before .before .before .before .before .before .before .before .before .before .before .before .before .before .before .before .before .before .args .numbers .now) (c .before .before .before .before .before .before .before .before .before .before .before .before .before .before .before .before .before .before .before .before .before .before .before .before .before .before .before .before .before .before .before .before .before .before .before .before .args .n) in
     let s = c .before .before .before .before .before .before .before .before .before .before .before .before .before .before .before .before .before .before .before .before .before .before .before .before .before .before .before .before .before .before .before .before .before .before .before .before .args .settings in
-    let count = pieces-count (c .before .before .before .before .before .before .before .before .before .before .before .before .before .before .before .before .before .before .before .before .before .before .before .before .before .before .before .before .before .before .before .before .before .before .before .before .args .numbers .now) (c .before .before .before .before .before .before .before .before .before .before .before .before .before .before .before .before .before .before .before .before .before .before .before .before .before .before .before .before .before .before .before .before .before .before .before .before .args .n) in
+    let count = pieces-length (c .before .before .before .before .before .before .before .before .before .before .before .before .before .before .before .before .before .before .before .before .before .before .before .before .before .before .before .before .before .before .before .before .before .before .before .before .args .numbers .now) (c .before .before .before .before .before .before .before .before .before .before .before .before .before .before .before .before .before .before .before .before .before .before .before .before .before .before .before .before .before .before .before .before .before .before .before .before .args .n) in
     let fine = valid-fine s ps (c .before .before .before .before .before .before .before .before .before .before .before .before .before .before .before .before .before .before .before .before .before .before .before .before .before .before .before .before .before .before .before .before .before .before .before .before .pre .1) in
     let buffer = c .before .before .before .before .before .before .before .before .before .before .before .before .before .before .before .before .before .before .before .before .before .before .before .before .before .before .before .before .before .before .before .before .before .before .before .before .args .buffer .now in
     let written = valid-writes s ps buffer (c .before .before .before .before .before .before .before .before .before .before .before .before .before .before .before .before .before .before .before .before .before .before .before .before .before .before .before .before .before .before .before .before .before .before .before .before .pre .0) (c .before .before .before .before .before .before .before .before .before .before .before .before .before .before .before .before .before .before .before .before .before .before .before .before .before .before .before .before .before .before .before .before .before .before .before .before .pre .1) in

@@ -6,14 +6,13 @@ use mathlib.Core.Path.{_≡_, refl, sym, ap, subst, _∙_}
 use Prim.Native.Nat.{ℕ, _+_, _-_, _*_, _≤_}
 use lib.ListN.{length, take, drop}
 use Rattle.rules.specs.LayerText.{ascii, pieceLines}
-use Rattle.text.specs.Writing.{Put, keyLine, piecesOf}
+use Rattle.layout.specs.Flat.{piecesOf}
+use Rattle.rules.specs.Basics.{upFrom}
+use Rattle.text.specs.Writing.{Put, keyLine}
 use Rattle.text.proofs.Puts.{put-none, put-on}
 use Rattle.text.proofs.Laying.{five-there, five-part, pieces-next, pieces-room}
 use Rattle.text.proofs.layer.write_pieces.Statement.{statement}
 use Rattle.text.proofs.layer.write_pieces.Tie as tie
-use Rattle.text.proofs.layer.write_pieces.Reads as reads
-use Rattle.text.proofs.layer.write_pieces.Lts as lts
-use Rattle.text.proofs.write.write_line.Reads as write-line-reads
 
 abbrev Inv-loop : tie.InvT-loop
 Inv-loop buffer₀ at numbers n end₀ k₀ from₀ t8 buffer end k from = (k ≤ n) × (length buffer ≡ length buffer₀) × Put buffer₀ at (pieceLines (piecesOf numbers k)) end buffer × (5 * n ≤ length numbers) × (at + length (pieceLines (piecesOf numbers n)) ≤ length buffer₀) × (from ≡ 5 * k)
@@ -21,36 +20,28 @@ Inv-loop buffer₀ at numbers n end₀ k₀ from₀ t8 buffer end k from = (k �
 abbrev μ-loop : tie.MeasureT-loop
 μ-loop buffer₀ at numbers n end₀ k₀ from₀ t8 buffer end k from = n - k
 
--- src/layer.rt:21:5
 loop-holds : tie.Need-loop-holds Inv-loop μ-loop
-unfolding piecesOf pieceLines
+unfolding piecesOf upFrom pieceLines
 loop-holds c = (omega arith, refl, put-none _ _, c .before .before .pre .0, c .before .before .pre .1, refl)
 
--- src/layer.rt:22:39
 slice-aggregate-write-line : tie.Need-slice-aggregate-write-line Inv-loop μ-loop
 slice-aggregate-write-line c = search needs
 
--- src/layer.rt:22:65
 add-write-line : tie.Need-add-write-line Inv-loop μ-loop
 add-write-line c = omega (arith, c .before .before .before .loop .inv .3, c .before .before .before .loop .inv .5)
 
--- src/layer.rt:22:50
 mul-write-line : tie.Need-mul-write-line Inv-loop μ-loop
 mul-write-line c = omega (arith, c .before .before .before .loop .inv .3, c .before .before .before .loop .inv .5)
 
--- src/layer.rt:22:50
 sub-write-line : tie.Need-sub-write-line Inv-loop μ-loop
 sub-write-line c = search needs
 
--- src/layer.rt:22:50
 part-write-line-start : tie.Need-part-write-line-start Inv-loop μ-loop
 part-write-line-start c = search needs
 
--- src/layer.rt:22:50
 part-write-line-end : tie.Need-part-write-line-end Inv-loop μ-loop
 part-write-line-end c = omega (arith, c .before .before .before .loop .inv .3, c .before .before .before .loop .inv .5)
 
--- src/layer.rt:22:9
 write-line-requires : tie.Need-write-line-requires Inv-loop μ-loop
 unfolding ascii
 write-line-requires c κs =
@@ -64,19 +55,15 @@ write-line-requires c κs =
       omega (arith, inv .1, inv .2 .end, inv .4, line, pieces-room numbers k (c .before .before .before .before .before .before .before .args .n) turn (inv .3)),
     )
 
--- src/layer.rt:23:9
 add-from : tie.Need-add-from Inv-loop μ-loop
 add-from c = omega (arith, c .before .before .before .before .before .before .before .loop .inv .3, c .before .before .before .before .before .before .before .loop .inv .5)
 
--- src/layer.rt:24:9
 add-k : tie.Need-add-k Inv-loop μ-loop
 add-k c = search needs
 
--- src/layer.rt:21:5
 loop-less : tie.Need-loop-less Inv-loop μ-loop
 loop-less c = search needs
 
--- src/layer.rt:21:5
 loop-again : tie.Need-loop-again Inv-loop μ-loop
 unfolding ascii
 loop-again c =
@@ -98,11 +85,9 @@ loop-again c =
       omega (arith, inv .5),
     )
 
--- src/layer.rt:14:1
 same-length : tie.Need-same-length Inv-loop μ-loop
 same-length c = c .before .loop .inv .1
 
--- src/layer.rt:14:1
 returns : tie.Need-returns Inv-loop μ-loop
 returns c =
     let all : c .before .loop .k ≡ c .before .before .before .before .args .n = omega arith in

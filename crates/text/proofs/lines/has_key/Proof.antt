@@ -8,8 +8,6 @@ use Rattle.rules.specs.LayerText.{afterKey}
 use Rattle.text.proofs.Splits.{key-short, key-on, key-differs, key-whole}
 use Rattle.text.proofs.lines.has_key.Statement.{statement}
 use Rattle.text.proofs.lines.has_key.Tie as tie
-use Rattle.text.proofs.lines.has_key.Reads as reads
-use Rattle.text.proofs.lines.has_key.Lts as lts
 
 abbrev Inv-loop : tie.InvT-loop
 Inv-loop line key i₀ i = (i ≤ length key) × (length key ≤ length line) × (afterKey key line ≡ afterKey (drop i key) (drop i line))
@@ -17,39 +15,30 @@ Inv-loop line key i₀ i = (i ≤ length key) × (length key ≤ length line) ×
 abbrev μ-loop : tie.MeasureT-loop
 μ-loop line key i₀ i = length key - i
 
--- src/lines.rt:35:9
 returns : tie.Need-returns Inv-loop μ-loop
 returns c = key-short _ _ (c .if1 .taken)
 
--- src/lines.rt:38:5
 loop-holds : tie.Need-loop-holds Inv-loop μ-loop
 loop-holds c = (omega arith, omega arith, refl)
 
--- src/lines.rt:39:12
 shared-slice-read-if2 : tie.Need-shared-slice-read-if2 Inv-loop μ-loop
 shared-slice-read-if2 c = search needs
 
--- src/lines.rt:39:22
 shared-slice-read-if2-2 : tie.Need-shared-slice-read-if2-2 Inv-loop μ-loop
 shared-slice-read-if2-2 c = search needs
 
--- src/lines.rt:40:13
 returns-2 : tie.Need-returns-2 Inv-loop μ-loop
 returns-2 c = key-differs _ _ _ (c .before .before .before .before .loop .inv .2) (c .before .before .before .before .loop .inv .1) (c .before .before .before .loop-test .taken) (c .if2 .taken)
 
--- src/lines.rt:42:9
 add-i : tie.Need-add-i Inv-loop μ-loop
 add-i c = search needs
 
--- src/lines.rt:38:5
 loop-less : tie.Need-loop-less Inv-loop μ-loop
 loop-less c = search needs
 
--- src/lines.rt:38:5
 loop-again : tie.Need-loop-again Inv-loop μ-loop
 loop-again c = (omega arith, omega arith, key-on _ _ _ (c .before .before .before .before .loop .inv .2) (c .before .before .before .before .loop .inv .1) (c .before .before .before .loop-test .taken) (c .if2 .left))
 
--- src/lines.rt:31:1
 returns-3 : tie.Need-returns-3 Inv-loop μ-loop
 returns-3 c =
     let whole : c .before .loop .i ≡ length (c .before .before .before .args .key .now) = omega arith in

@@ -8,8 +8,6 @@ use Rattle.rules.specs.LayerText.{firstLine}
 use Rattle.text.proofs.Splits.{ahead, line-none, line-here, line-on, line-missing}
 use Rattle.text.proofs.lines.line_end.Statement.{statement}
 use Rattle.text.proofs.lines.line_end.Tie as tie
-use Rattle.text.proofs.lines.line_end.Reads as reads
-use Rattle.text.proofs.lines.line_end.Lts as lts
 
 abbrev Inv-loop : tie.InvT-loop
 Inv-loop text n₀ n = (n ≤ length text) × (firstLine text ≡ ahead (take n text) (firstLine (drop n text)))
@@ -17,31 +15,24 @@ Inv-loop text n₀ n = (n ≤ length text) × (firstLine text ≡ ahead (take n 
 abbrev μ-loop : tie.MeasureT-loop
 μ-loop text n₀ n = length text - n
 
--- src/lines.rt:21:5
 loop-holds : tie.Need-loop-holds Inv-loop μ-loop
 loop-holds c = (omega arith, line-none (c .args .text .now))
 
--- src/lines.rt:22:12
 shared-slice-read-if1 : tie.Need-shared-slice-read-if1 Inv-loop μ-loop
 shared-slice-read-if1 c = search needs
 
--- src/lines.rt:23:13
 returns : tie.Need-returns Inv-loop μ-loop
 returns c = line-here _ _ (c .before .before .before .loop .inv .1) (c .before .before .loop-test .taken) (c .if1 .taken)
 
--- src/lines.rt:25:9
 add-n : tie.Need-add-n Inv-loop μ-loop
 add-n c = search needs
 
--- src/lines.rt:21:5
 loop-less : tie.Need-loop-less Inv-loop μ-loop
 loop-less c = search needs
 
--- src/lines.rt:21:5
 loop-again : tie.Need-loop-again Inv-loop μ-loop
 loop-again c = (omega arith, line-on _ _ (c .before .before .before .loop .inv .1) (c .before .before .loop-test .taken) (c .if1 .left))
 
--- src/lines.rt:17:1
 returns-2 : tie.Need-returns-2 Inv-loop μ-loop
 returns-2 c = line-missing _ _ (c .before .loop .inv .1) (c .loop-test .left)
 

@@ -15,36 +15,24 @@ use Rattle.text.proofs.Reading.{part-from}
 use Rattle.text.proofs.LineForm.{line-unended, line-no-key, line-bad-numbers, line-good}
 use Rattle.text.proofs.lines.read_line.Statement.{statement}
 use Rattle.text.proofs.lines.read_line.Tie as tie
-use Rattle.text.proofs.lines.read_line.Reads as reads
-use Rattle.text.proofs.lines.read_line.Lts as lts
-use Rattle.text.proofs.lines.bad_line.Reads as bad-line-reads
-use Rattle.text.proofs.lines.has_key.Reads as has-key-reads
-use Rattle.text.proofs.lines.line_end.Reads as line-end-reads
-use Rattle.text.proofs.lines.read_numbers.Reads as read-numbers-reads
 
--- src/lines.rt:114:26
 line-end-requires : tie.Need-line-end-requires
 line-end-requires c κs = search needs
 
--- src/lines.rt:114:21
 enum-known-n : tie.Need-enum-known-n
 enum-known-n c = search needs
 
--- src/lines.rt:115:9
 enum-told : tie.Need-enum-told
 enum-told c = search needs
 
--- src/lines.rt:115:9
 bad-line-requires : tie.Need-bad-line-requires
 bad-line-requires c κs = search needs
 
--- src/lines.rt:115:9
 returns : tie.Need-returns
 returns c =
     let text = c .before .before .before .before .before .before .args .text .now in
     line-unended text _ _ _ (c .bad-line .ensures) (ap (lineSplit text) (sym (c .before .enum-told .given .1)) ∙ c .before .before .before .line-end .ensures)
 
--- src/lines.rt:117:9
 slice-aggregate-body : tie.Need-slice-aggregate-body
 slice-aggregate-body c =
     let text = c .before .before .before .before .before .before .before .args .text .now in
@@ -53,15 +41,12 @@ slice-aggregate-body c =
     let found = line-inside text n split in
     sym (length-take-le n text (omega (arith, found)))
 
--- src/lines.rt:118:9
 has-key-requires : tie.Need-has-key-requires
 has-key-requires c κs = search needs
 
--- src/lines.rt:119:9
 bad-line-requires-2 : tie.Need-bad-line-requires-2
 bad-line-requires-2 c κs = search needs
 
--- src/lines.rt:119:9
 returns-2 : tie.Need-returns-2
 returns-2 c =
     let text = c .before .before .before .before .before .before .before .before .before .before .args .text .now in
@@ -69,7 +54,6 @@ returns-2 c =
     let split = ap (lineSplit text) (sym (c .before .before .before .before .before .n .given .1)) ∙ c .before .before .before .before .before .before .before .line-end .ensures in
     line-no-key text _ _ n split (c .before .before .has-key .result) (c .before .before .has-key .ensures) _ (c .bad-line2 .ensures) (c .before .if1 .taken)
 
--- src/lines.rt:122:32
 sub-read-numbers : tie.Need-sub-read-numbers
 sub-read-numbers c =
     let text = c .before .before .before .before .before .before .before .before .before .args .text .now in
@@ -79,7 +63,6 @@ sub-read-numbers c =
     let there = c .before .has-key .ensures ∙ ap (λ (t : Bool). keyed t (drop (length key) (take n text))) (not-false (c .before .has-key .result) (c .if1 .left)) in
     key-fits key (take n text) (drop (length key) (take n text)) there
 
--- src/lines.rt:122:32
 part-read-numbers-start : tie.Need-part-read-numbers-start
 part-read-numbers-start c =
     let text = c .before .before .before .before .before .before .before .before .before .args .text .now in
@@ -89,19 +72,15 @@ part-read-numbers-start c =
     let there = c .before .has-key .ensures ∙ ap (λ (t : Bool). keyed t (drop (length key) (take n text))) (not-false (c .before .has-key .result) (c .if1 .left)) in
     key-fits key (take n text) (drop (length key) (take n text)) there
 
--- src/lines.rt:122:32
 part-read-numbers-end : tie.Need-part-read-numbers-end
 part-read-numbers-end c = search needs
 
--- src/lines.rt:122:9
 read-numbers-requires : tie.Need-read-numbers-requires
 read-numbers-requires c κs = search needs
 
--- src/lines.rt:124:9
 bad-line-requires-3 : tie.Need-bad-line-requires-3
 bad-line-requires-3 c κs = search needs
 
--- src/lines.rt:124:9
 returns-3 : tie.Need-returns-3
 returns-3 c =
     let text = c .before .before .before .before .before .before .before .before .before .before .before .before .before .before .args .text .now in
@@ -113,7 +92,6 @@ returns-3 c =
     let numbers = ap (λ (l : List ℕ). cappedNumbers (numbersOf count (partsOf l))) (sym (part-from body start)) ∙ c .before .before .before .read-numbers .ensures ∙ ap (λ (t : Bool). keyed t (take count (c .before .before .before .read-numbers .result .values))) (not-true (c .before .before .before .read-numbers .result .good) (c .before .if2 .taken)) in
     line-bad-numbers text _ _ n split (c .before .before .before .before .before .before .has-key .result) (c .before .before .before .before .before .before .has-key .ensures) (c .before .before .before .before .before .if1 .left) _ (c .bad-line3 .ensures) numbers
 
--- src/lines.rt:127:31
 add-t14 : tie.Need-add-t14
 add-t14 c =
     let text = c .before .before .before .before .before .before .before .before .before .before .before .before .before .before .args .text .now in
@@ -121,7 +99,6 @@ add-t14 c =
     let split = ap (lineSplit text) (sym (c .before .before .before .before .before .before .before .before .before .n .given .1)) ∙ c .before .before .before .before .before .before .before .before .before .before .before .line-end .ensures in
     omega (arith, line-inside text n split)
 
--- src/lines.rt:110:1
 returns-4 : tie.Need-returns-4
 returns-4 c =
     let text = c .before .before .before .before .before .before .before .before .before .before .before .before .before .before .args .text .now in

@@ -7,61 +7,46 @@ use Rattle.text.specs.Numeral.{numeralOf}
 use Rattle.text.proofs.Reading.{part-from, numeral-inside, next-empty, next-other, next-comma}
 use Rattle.text.proofs.lines.read_next.Statement.{statement}
 use Rattle.text.proofs.lines.read_next.Tie as tie
-use Rattle.text.proofs.lines.read_next.Reads as reads
-use Rattle.text.proofs.lines.read_next.Lts as lts
-use Rattle.text.proofs.numbers.read_numeral.Reads as read-numeral-reads
 
--- src/lines.rt:52:9
 returns : tie.Need-returns
 returns c = next-empty _ (c .if1 .taken)
 
--- src/lines.rt:54:8
 shared-slice-read-if2 : tie.Need-shared-slice-read-if2
 shared-slice-read-if2 c = search needs
 
--- src/lines.rt:55:9
 returns-2 : tie.Need-returns-2
 returns-2 c = next-other _ (c .if2 .taken)
 
--- src/lines.rt:57:24
 sub-read-numeral : tie.Need-sub-read-numeral
 sub-read-numeral c = search needs
 
--- src/lines.rt:57:24
 part-read-numeral-start : tie.Need-part-read-numeral-start
 part-read-numeral-start c = search needs
 
--- src/lines.rt:57:24
 part-read-numeral-end : tie.Need-part-read-numeral-end
 part-read-numeral-end c = search needs
 
--- src/lines.rt:57:11
 read-numeral-requires : tie.Need-read-numeral-requires
 read-numeral-requires c κs = search needs
 
--- src/lines.rt:58:25
 enum-known-value : tie.Need-enum-known-value
 enum-known-value c = search needs
 
--- src/lines.rt:58:66
 add-t13 : tie.Need-add-t13
 add-t13 c =
     let text = c .before .before .before .before .before .before .before .before .before .args .text .now in
     let read = sym (c .before .value .given .1) ∙ c .before .before .before .read-numeral .ensures ∙ ap numeralOf (part-from text 1) in
     omega (arith, numeral-inside (drop 1 text) _ _ read, length-drop 1 text)
 
--- src/lines.rt:59:25
 enum-told : tie.Need-enum-told
 enum-told c = search needs
 
--- src/lines.rt:48:1
 returns-3 : tie.Need-returns-3
 returns-3 c =
     let text = c .before .before .before .before .before .before .before .before .before .args .text .now in
     let read = sym (c .before .value .given .1) ∙ c .before .before .before .read-numeral .ensures ∙ ap numeralOf (part-from text 1) in
     next-comma text (c .before .before .before .before .before .before .before .if1 .left) (c .before .before .before .before .before .if2 .left) _ read
 
--- src/lines.rt:48:1
 returns-4 : tie.Need-returns-4
 returns-4 c =
     let text = c .before .before .before .before .before .before .before .before .args .text .now in

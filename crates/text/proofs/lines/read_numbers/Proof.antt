@@ -9,10 +9,6 @@ use Rattle.text.specs.Lines.{nextNumeral}
 use Rattle.text.proofs.Reading.{Read, part-from, numeral-inside, next-good, read-start, read-nothing, read-on, read-stop, read-end}
 use Rattle.text.proofs.lines.read_numbers.Statement.{statement}
 use Rattle.text.proofs.lines.read_numbers.Tie as tie
-use Rattle.text.proofs.lines.read_numbers.Reads as reads
-use Rattle.text.proofs.lines.read_numbers.Lts as lts
-use Rattle.text.proofs.lines.read_next.Reads as read-next-reads
-use Rattle.text.proofs.numbers.read_numeral.Reads as read-numeral-reads
 
 abbrev Inv-loop : tie.InvT-loop
 Inv-loop text count values₀ first digits at₀ k₀ values at k = (k ≤ count) × (at ≤ length text) × (length values ≡ 5) × Read text count values at k
@@ -20,62 +16,48 @@ Inv-loop text count values₀ first digits at₀ k₀ values at k = (k ≤ count
 abbrev μ-loop : tie.MeasureT-loop
 μ-loop text count values₀ first digits at₀ k₀ values at k = count - k
 
--- src/lines.rt:74:42
 read-numeral-requires : tie.Need-read-numeral-requires Inv-loop μ-loop
 read-numeral-requires c κs = search needs
 
--- src/lines.rt:74:25
 enum-known-first : tie.Need-enum-known-first Inv-loop μ-loop
 enum-known-first c = search needs
 
--- src/lines.rt:75:47
 enum-told : tie.Need-enum-told Inv-loop μ-loop
 enum-told c = search needs
 
--- src/lines.rt:75:9
 returns : tie.Need-returns Inv-loop μ-loop
 returns c = read-nothing _ _ (c .before .before .before .before .pre .0) (sym (c .enum-told .given .1) ∙ c .before .before .read-numeral .ensures)
 
--- src/lines.rt:77:5
 array-write-values : tie.Need-array-write-values Inv-loop μ-loop
 array-write-values c = search needs
 
--- src/lines.rt:80:5
 loop-holds : tie.Need-loop-holds Inv-loop μ-loop
 loop-holds c =
     let text = c .before .before .before .before .before .args .text .now in
     let read = sym (c .before .first .given .1) ∙ c .before .before .before .read-numeral .ensures in
     (omega arith, numeral-inside text _ _ read, refl, read-start text _ _ _ (c .before .first .given .0 .0 ∷ 0 ∷ 0 ∷ 0 ∷ 0 ∷ []) (c .before .before .before .before .before .pre .0) read refl)
 
--- src/lines.rt:81:25
 sub-read-next : tie.Need-sub-read-next Inv-loop μ-loop
 sub-read-next c = search needs
 
--- src/lines.rt:81:25
 part-read-next-start : tie.Need-part-read-next-start Inv-loop μ-loop
 part-read-next-start c = search needs
 
--- src/lines.rt:81:25
 part-read-next-end : tie.Need-part-read-next-end Inv-loop μ-loop
 part-read-next-end c = search needs
 
--- src/lines.rt:81:15
 read-next-requires : tie.Need-read-next-requires Inv-loop μ-loop
 read-next-requires c κs = search needs
 
--- src/lines.rt:82:29
 enum-known-value : tie.Need-enum-known-value Inv-loop μ-loop
 enum-known-value c = search needs
 
--- src/lines.rt:83:17
 mul-values : tie.Need-mul-values Inv-loop μ-loop
 mul-values c = search needs
 
--- src/lines.rt:83:17
 array-write-values-2 : tie.Need-array-write-values-2 Inv-loop μ-loop
 array-write-values-2 c = search needs
 
--- src/lines.rt:84:17
 add-at : tie.Need-add-at Inv-loop μ-loop
 add-at c =
     let text = c .before .before .before .before .before .before .before .before .before .before .before .before .args .text .now in
@@ -83,15 +65,12 @@ add-at c =
     let read = sym (c .before .value .given .1) ∙ c .before .before .before .read-next .ensures ∙ ap nextNumeral (part-from text at) in
     omega (arith, next-good (drop at text) _ _ 0 read .1, length-drop at text)
 
--- src/lines.rt:85:17
 add-k : tie.Need-add-k Inv-loop μ-loop
 add-k c = search needs
 
--- src/lines.rt:80:5
 loop-less : tie.Need-loop-less Inv-loop μ-loop
 loop-less c = search needs
 
--- src/lines.rt:80:5
 loop-again : tie.Need-loop-again Inv-loop μ-loop
 loop-again c =
     let text = c .before .before .before .before .before .before .before .before .before .before .before .before .args .text .now in
@@ -102,11 +81,9 @@ loop-again c =
     let turn = c .before .before .before .before .before .loop-test .taken in
     (omega arith, omega (arith, length-drop at text), simp length-set (inv .2), read-on text _ _ at _ (inv .3) _ _ turn (omega (arith, inv .2)) read)
 
--- src/lines.rt:88:55
 enum-told-2 : tie.Need-enum-told-2 Inv-loop μ-loop
 enum-told-2 c = search needs
 
--- src/lines.rt:88:17
 returns-2 : tie.Need-returns-2 Inv-loop μ-loop
 returns-2 c =
     let text = c .before .before .before .before .before .before .before .before .before .before .before .args .text .now in
@@ -114,7 +91,6 @@ returns-2 c =
     let read = sym (c .enum-told2 .given .1) ∙ c .before .before .read-next .ensures ∙ ap nextNumeral (part-from text at) in
     read-stop text _ _ at _ (c .before .before .before .before .before .loop .inv .3) (c .before .before .before .before .loop-test .taken) read
 
--- src/lines.rt:69:1
 returns-3 : tie.Need-returns-3 Inv-loop μ-loop
 returns-3 c =
     let whole : c .before .loop .k ≡ c .before .before .before .before .before .before .before .args .count = omega arith in

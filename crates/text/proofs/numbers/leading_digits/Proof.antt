@@ -9,9 +9,6 @@ use Rattle.text.specs.Numeral.{digitsIn}
 use Rattle.text.proofs.Digits.{digit-here, other-here, digits-within}
 use Rattle.text.proofs.numbers.leading_digits.Statement.{statement}
 use Rattle.text.proofs.numbers.leading_digits.Tie as tie
-use Rattle.text.proofs.numbers.leading_digits.Reads as reads
-use Rattle.text.proofs.numbers.leading_digits.Lts as lts
-use Rattle.text.proofs.numbers.is_digit.Reads as is-digit-reads
 
 abbrev Inv-loop : tie.InvT-loop
 Inv-loop text n₀ n = (n ≤ length text) × (digitsIn text ≡ n + digitsIn (drop n text))
@@ -19,19 +16,15 @@ Inv-loop text n₀ n = (n ≤ length text) × (digitsIn text ≡ n + digitsIn (d
 abbrev μ-loop : tie.MeasureT-loop
 μ-loop text n₀ n = length text - n
 
--- src/decimal.rt:28:5
 loop-holds : tie.Need-loop-holds Inv-loop μ-loop
 loop-holds c = search needs
 
--- src/decimal.rt:29:22
 shared-slice-read-is-digit : tie.Need-shared-slice-read-is-digit Inv-loop μ-loop
 shared-slice-read-is-digit c = search needs
 
--- src/decimal.rt:29:13
 is-digit-requires : tie.Need-is-digit-requires Inv-loop μ-loop
 is-digit-requires c κs = search needs
 
--- src/decimal.rt:30:13
 returns : tie.Need-returns Inv-loop μ-loop
 returns c =
     let text = c .before .before .before .before .before .before .args .text .now in
@@ -39,15 +32,12 @@ returns c =
     let other = sym (c .before .is-digit .ensures) ∙ not-true _ (c .if1 .taken) in
     omega (arith, other-here text n (c .before .before .before .loop-test .taken) other)
 
--- src/decimal.rt:32:9
 add-n : tie.Need-add-n Inv-loop μ-loop
 add-n c = search needs
 
--- src/decimal.rt:28:5
 loop-less : tie.Need-loop-less Inv-loop μ-loop
 loop-less c = search needs
 
--- src/decimal.rt:28:5
 loop-again : tie.Need-loop-again Inv-loop μ-loop
 loop-again c =
     let text = c .before .before .before .before .before .before .args .text .now in
@@ -55,7 +45,6 @@ loop-again c =
     let digit = sym (c .before .is-digit .ensures) ∙ not-false _ (c .if1 .left) in
     omega (arith, digit-here text n (c .before .before .before .loop-test .taken) digit)
 
--- src/decimal.rt:24:1
 returns-2 : tie.Need-returns-2 Inv-loop μ-loop
 returns-2 c =
     let text = c .before .before .before .args .text .now in

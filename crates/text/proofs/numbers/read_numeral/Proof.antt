@@ -11,43 +11,32 @@ use Rattle.rules.specs.LayerText.{allDigits}
 use Rattle.text.proofs.Digits.{all-digits, digits-within, read-none, read-zero-first, read-one, read-more}
 use Rattle.text.proofs.numbers.read_numeral.Statement.{statement}
 use Rattle.text.proofs.numbers.read_numeral.Tie as tie
-use Rattle.text.proofs.numbers.read_numeral.Reads as reads
-use Rattle.text.proofs.numbers.read_numeral.Lts as lts
-use Rattle.text.proofs.numbers.leading_digits.Reads as leading-digits-reads
-use Rattle.text.proofs.numbers.value_of.Reads as value-of-reads
 
--- src/numbers.rt:57:9
 leading-digits-requires : tie.Need-leading-digits-requires
 leading-digits-requires c κs = search needs
 
--- src/numbers.rt:59:9
 returns : tie.Need-returns
 returns c =
     read-none _ _ (c .before .leading-digits .ensures) (c .if1 .taken)
 
--- src/numbers.rt:62:12
 shared-slice-read-if3 : tie.Need-shared-slice-read-if3
 shared-slice-read-if3 c =
     omega (arith, digits-within (c .before .before .before .before .before .args .text .now))
 
--- src/numbers.rt:63:13
 returns-2 : tie.Need-returns-2
 returns-2 c =
     read-zero-first _ _ (c .before .before .before .before .leading-digits .ensures) (c .before .before .if2 .taken) (c .if3 .taken)
 
--- src/numbers.rt:66:30
 slice-aggregate-value-of : tie.Need-slice-aggregate-value-of
 slice-aggregate-value-of c =
     let text = c .before .before .before .before .before .args .text .now in
     sym (length-take-le (c .before .before .before .leading-digits .result) text (omega (arith, digits-within text)))
 
--- src/numbers.rt:66:21
 value-of-requires : tie.Need-value-of-requires
 value-of-requires c κs =
     let text = c .before .before .before .before .before .args .text .now in
     subst (λ (n : ℕ). allDigits (take n text) ≡ true) (sym (c .before .before .before .leading-digits .ensures)) (all-digits text)
 
--- src/numbers.rt:54:1
 returns-3 : tie.Need-returns-3
 returns-3 c =
     let count = c .before .before .before .before .leading-digits .ensures in

@@ -13,8 +13,6 @@ use Rattle.text.proofs.Decimal.{digit-low}
 use Rattle.text.proofs.Digits.{digit-at, value-next}
 use Rattle.text.proofs.numbers.value_of.Statement.{statement}
 use Rattle.text.proofs.numbers.value_of.Tie as tie
-use Rattle.text.proofs.numbers.value_of.Reads as reads
-use Rattle.text.proofs.numbers.value_of.Lts as lts
 
 abbrev Inv-loop : tie.InvT-loop
 Inv-loop digits total₀ n₀ total n = (n ≤ length digits) × (total ≡ min (value (take n digits)) cap)
@@ -22,41 +20,32 @@ Inv-loop digits total₀ n₀ total n = (n ≤ length digits) × (total ≡ min 
 abbrev μ-loop : tie.MeasureT-loop
 μ-loop digits total₀ n₀ total n = length digits - n
 
--- src/decimal.rt:44:5
 loop-holds : tie.Need-loop-holds Inv-loop μ-loop
 unfolding valueAfter
 loop-holds c = (omega arith, refl)
 
--- src/decimal.rt:45:21
 shared-slice-read-digit : tie.Need-shared-slice-read-digit Inv-loop μ-loop
 shared-slice-read-digit c = search needs
 
--- src/decimal.rt:45:21
 sub-digit : tie.Need-sub-digit Inv-loop μ-loop
 sub-digit c =
     digit-low _ (digit-at _ _ (c .before .before .before .pre) (c .before .loop-test .taken))
 
--- src/decimal.rt:46:20
 mul-next : tie.Need-mul-next Inv-loop μ-loop
 mul-next c = omega arith
 
--- src/decimal.rt:46:34
 cast-next : tie.Need-cast-next Inv-loop μ-loop
 cast-next c = omega (arith, c .shared-slice-known .given (c .before .before .loop .n))
 
--- src/decimal.rt:46:20
 add-next : tie.Need-add-next Inv-loop μ-loop
 add-next c = omega (arith, c .shared-slice-known .given (c .before .before .loop .n))
 
--- src/decimal.rt:48:9
 add-n : tie.Need-add-n Inv-loop μ-loop
 add-n c = search needs
 
--- src/decimal.rt:44:5
 loop-less : tie.Need-loop-less Inv-loop μ-loop
 loop-less c = search needs
 
--- src/decimal.rt:44:5
 loop-again : tie.Need-loop-again Inv-loop μ-loop
 loop-again c =
     let digits = c .before .before .before .before .args .digits .now in
@@ -64,11 +53,9 @@ loop-again c =
     let next = value-next digits n (c .before .before .loop-test .taken) in
     ⊎-elim (λ w. omega (arith, next)) (λ w. omega (arith, next)) (c .if1 .came)
 
--- src/decimal.rt:50:5
 cast-result : tie.Need-cast-result Inv-loop μ-loop
 cast-result c = omega arith
 
--- src/decimal.rt:38:1
 returns : tie.Need-returns Inv-loop μ-loop
 returns c =
     let digits = c .before .before .args .digits .now in

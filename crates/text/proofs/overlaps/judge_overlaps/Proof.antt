@@ -9,9 +9,6 @@ use Rattle.rules.proofs.Outcomes.{each-next, each-refused}
 use Rattle.text.proofs.Overlapping.{overlapQuestion, overlaps-of}
 use Rattle.text.proofs.overlaps.judge_overlaps.Statement.{statement}
 use Rattle.text.proofs.overlaps.judge_overlaps.Tie as tie
-use Rattle.text.proofs.overlaps.judge_overlaps.Reads as reads
-use Rattle.text.proofs.overlaps.judge_overlaps.Lts as lts
-use Rattle.text.proofs.overlaps.overlaps_earlier.Reads as overlaps-earlier-reads
 
 abbrev Inv-loop : tie.InvT-loop
 Inv-loop records count j₀ j = (j ≤ count) × (count ≤ length records) × (askEach (overlapQuestion records) j ≡ done tt)
@@ -19,38 +16,30 @@ Inv-loop records count j₀ j = (j ≤ count) × (count ≤ length records) × (
 abbrev μ-loop : tie.MeasureT-loop
 μ-loop records count j₀ j = count - j
 
--- src/overlaps.rt:60:5
 loop-holds : tie.Need-loop-holds Inv-loop μ-loop
 unfolding askEach
 loop-holds c = (omega arith, omega (arith, c .good .0 .1 .0 .1), refl)
 
--- src/overlaps.rt:61:12
 overlaps-earlier-requires : tie.Need-overlaps-earlier-requires Inv-loop μ-loop
 overlaps-earlier-requires c κs = search needs
 
--- src/overlaps.rt:62:71
 cast-t7 : tie.Need-cast-t7 Inv-loop μ-loop
 cast-t7 c = search needs
 
--- src/overlaps.rt:62:13
 returns : tie.Need-returns Inv-loop μ-loop
 returns c =
     let at = c .before .before .before .loop in
     sym (overlaps-of _ _ (at .inv .1) ∙ each-refused _ _ {i = at .j} (omega arith) (at .inv .2) (rw (sym (c .before .overlaps-earlier .ensures) ∙ c .if1 .taken)))
 
--- src/overlaps.rt:64:9
 add-j : tie.Need-add-j Inv-loop μ-loop
 add-j c = search needs
 
--- src/overlaps.rt:60:5
 loop-less : tie.Need-loop-less Inv-loop μ-loop
 loop-less c = search needs
 
--- src/overlaps.rt:60:5
 loop-again : tie.Need-loop-again Inv-loop μ-loop
 loop-again c = (omega arith, c .before .before .before .loop .inv .1, each-next _ _ (c .before .before .before .loop .inv .2) (rw (sym (c .before .overlaps-earlier .ensures) ∙ c .if1 .left)))
 
--- src/overlaps.rt:55:1
 returns-2 : tie.Need-returns-2 Inv-loop μ-loop
 returns-2 c =
     let e : c .before .loop .j ≡ c .before .before .args .count = omega arith in

@@ -17,48 +17,37 @@ Inv-loop j records piece i₀ i = (i ≤ j) × (anyOf (λ k. overlapping (pieceA
 abbrev μ-loop : tie.MeasureT-loop
 μ-loop j records piece i₀ i = j - i
 
--- src/overlaps.rt:43:17
 mul-piece : tie.Need-mul-piece Inv-loop μ-loop
 mul-piece c = search needs
 
--- src/overlaps.rt:43:17
 array-copy-out-piece : tie.Need-array-copy-out-piece Inv-loop μ-loop
 array-copy-out-piece c = search needs
 
--- src/overlaps.rt:45:5
 loop-holds : tie.Need-loop-holds Inv-loop μ-loop
 unfolding anyOf upFrom
 loop-holds c = (omega arith, refl)
 
--- src/overlaps.rt:46:20
 mul-pieces-overlap : tie.Need-mul-pieces-overlap Inv-loop μ-loop
 mul-pieces-overlap c = search needs
 
--- src/overlaps.rt:46:20
 array-copy-out-pieces-overlap : tie.Need-array-copy-out-pieces-overlap Inv-loop μ-loop
 array-copy-out-pieces-overlap c = search needs
 
--- src/overlaps.rt:46:12
 pieces-overlap-requires : tie.Need-pieces-overlap-requires Inv-loop μ-loop
 pieces-overlap-requires c κs = search needs
 
--- src/overlaps.rt:47:13
 returns : tie.Need-returns Inv-loop μ-loop
 returns c = sym (any-found _ _ {i = c .before .before .before .before .loop .i} (omega arith) (sym (c .before .pieces-overlap .ensures) ∙ c .if1 .taken))
 
--- src/overlaps.rt:49:9
 add-i : tie.Need-add-i Inv-loop μ-loop
 add-i c = search needs
 
--- src/overlaps.rt:45:5
 loop-less : tie.Need-loop-less Inv-loop μ-loop
 loop-less c = search needs
 
--- src/overlaps.rt:45:5
 loop-again : tie.Need-loop-again Inv-loop μ-loop
 loop-again c = (omega arith, any-next _ _ ∙ rw (c .before .before .before .before .loop .inv .1) (sym (c .before .pieces-overlap .ensures) ∙ c .if1 .left))
 
--- src/overlaps.rt:39:1
 returns-2 : tie.Need-returns-2 Inv-loop μ-loop
 returns-2 c =
     let e : c .before .loop .i ≡ c .before .before .before .args .j = omega arith in

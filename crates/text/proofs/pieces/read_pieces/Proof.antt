@@ -11,10 +11,6 @@ use Rattle.text.proofs.Reading.{part-from}
 use Rattle.text.proofs.PieceLines.{Read, Zero, read-start, zero-on, read-on, read-stop, read-end}
 use Rattle.text.proofs.pieces.read_pieces.Statement.{statement}
 use Rattle.text.proofs.pieces.read_pieces.Tie as tie
-use Rattle.text.proofs.pieces.read_pieces.Reads as reads
-use Rattle.text.proofs.pieces.read_pieces.Lts as lts
-use Rattle.text.proofs.pieces.no_pieces.Reads as no-pieces-reads
-use Rattle.text.proofs.pieces.read_piece.Reads as read-piece-reads
 
 abbrev Inv-loop : tie.InvT-loop
 Inv-loop text count records₀ at₀ k₀ records at k = (k ≤ count) × (at ≤ length text) × (length records ≡ 512) × Read text count records at k × Zero records k
@@ -22,60 +18,47 @@ Inv-loop text count records₀ at₀ k₀ records at k = (k ≤ count) × (at �
 abbrev μ-loop : tie.MeasureT-loop
 μ-loop text count records₀ at₀ k₀ records at k = count - k
 
--- src/pieces.rt:91:23
 no-pieces-requires : tie.Need-no-pieces-requires Inv-loop μ-loop
 no-pieces-requires c κs = search needs
 
--- src/pieces.rt:94:5
 loop-holds : tie.Need-loop-holds Inv-loop μ-loop
 loop-holds c =
     let zeros = c .no-pieces .ensures in
     (omega arith, omega arith, ap length zeros ∙ length-replicate 512 noPiece, read-start _ _ (c .no-pieces .result), zeros)
 
--- src/pieces.rt:95:26
 sub-read-piece : tie.Need-sub-read-piece Inv-loop μ-loop
 sub-read-piece c = search needs
 
--- src/pieces.rt:95:26
 part-read-piece-start : tie.Need-part-read-piece-start Inv-loop μ-loop
 part-read-piece-start c = search needs
 
--- src/pieces.rt:95:26
 part-read-piece-end : tie.Need-part-read-piece-end Inv-loop μ-loop
 part-read-piece-end c = search needs
 
--- src/pieces.rt:95:15
 read-piece-requires : tie.Need-read-piece-requires Inv-loop μ-loop
 read-piece-requires c κs = search needs
 
--- src/pieces.rt:96:29
 enum-known-piece : tie.Need-enum-known-piece Inv-loop μ-loop
 enum-known-piece c = search needs
 
--- src/pieces.rt:97:17
 mul-records : tie.Need-mul-records Inv-loop μ-loop
 mul-records c = search needs
 
--- src/pieces.rt:97:17
 array-set-from-records : tie.Need-array-set-from-records Inv-loop μ-loop
 array-set-from-records c = search needs
 
--- src/pieces.rt:98:17
 add-at : tie.Need-add-at Inv-loop μ-loop
 add-at c =
     let text = c .before .before .before .before .before .before .before .before .before .args .text .now in
     let at = c .before .before .before .before .before .before .loop .at in
     omega (arith, c .before .before .before .read-piece .ensures .inside, ap pieceBytes (c .before .piece .given .1), ap length (part-from text at), length-drop at text)
 
--- src/pieces.rt:99:17
 add-k : tie.Need-add-k Inv-loop μ-loop
 add-k c = search needs
 
--- src/pieces.rt:94:5
 loop-less : tie.Need-loop-less Inv-loop μ-loop
 loop-less c = search needs
 
--- src/pieces.rt:94:5
 loop-again : tie.Need-loop-again Inv-loop μ-loop
 loop-again c =
     let text = c .before .before .before .before .before .before .before .before .before .args .text .now in
@@ -96,19 +79,15 @@ loop-again c =
       zero-on records k _ low (inv .4),
     )
 
--- src/pieces.rt:101:32
 enum-known-question : tie.Need-enum-known-question Inv-loop μ-loop
 enum-known-question c = search needs
 
--- src/pieces.rt:102:29
 cast-line : tie.Need-cast-line Inv-loop μ-loop
 cast-line c = search needs
 
--- src/pieces.rt:102:28
 add-line : tie.Need-add-line Inv-loop μ-loop
 add-line c = search needs
 
--- src/pieces.rt:103:17
 returns : tie.Need-returns Inv-loop μ-loop
 returns c =
     let text = c .before .before .before .before .before .before .before .before .before .args .text .now in
@@ -123,7 +102,6 @@ returns c =
       inside = zero-le;
     }
 
--- src/pieces.rt:87:1
 returns-2 : tie.Need-returns-2 Inv-loop μ-loop
 returns-2 c =
     let inv = c .before .loop .inv in

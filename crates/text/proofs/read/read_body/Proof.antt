@@ -6,68 +6,49 @@ use Rattle.rules.specs.Questions.{Outcome, Layer}
 use Rattle.text.proofs.Layers.{body-refused, body-more, body-overlap, handed-layer}
 use Rattle.text.proofs.read.read_body.Statement.{statement}
 use Rattle.text.proofs.read.read_body.Tie as tie
-use Rattle.text.proofs.read.read_body.Reads as reads
-use Rattle.text.proofs.read.read_body.Lts as lts
-use Rattle.text.proofs.overlaps.judge_overlaps.Reads as judge-overlaps-reads
-use Rattle.text.proofs.pieces.read_pieces.Reads as read-pieces-reads
-use Rattle.text.proofs.read.refuse.Reads as refuse-reads
 
--- src/read.rt:43:9
 read-pieces-requires : tie.Need-read-pieces-requires
 read-pieces-requires c κs = search needs
 
--- src/read.rt:45:32
 enum-known-answer : tie.Need-enum-known-answer
 enum-known-answer c = search needs
 
--- src/read.rt:46:9
 refuse-requires : tie.Need-refuse-requires
 refuse-requires c κs = search needs
 
--- src/read.rt:46:9
 returns : tie.Need-returns
 returns c = subst (λ (o : Outcome Layer). HandedBack o (c .refuse .result)) (sym (body-refused _ _ _ (c .before .before .before .before .read-pieces .result) (c .before .before .before .before .read-pieces .ensures) _ _ (c .before .before .answer .given .1))) (c .refuse .ensures)
 
 enum-told : tie.Need-enum-told
 enum-told c = search needs
 
--- src/read.rt:49:51
 cast-t14 : tie.Need-cast-t14
 cast-t14 c = search needs
 
--- src/read.rt:49:50
 add-t15 : tie.Need-add-t15
 add-t15 c = search needs
 
--- src/read.rt:49:9
 refuse-requires-2 : tie.Need-refuse-requires-2
 refuse-requires-2 c κs = search needs
 
--- src/read.rt:49:9
 returns-2 : tie.Need-returns-2
 returns-2 c = subst (λ (o : Outcome Layer). HandedBack o (c .refuse2 .result)) (sym (body-more _ _ _ (c .before .before .before .before .before .read-pieces .result) (c .before .before .before .before .before .read-pieces .ensures) (c .before .before .before .enum-told .given .1) (c .before .if1 .taken))) (c .refuse2 .ensures)
 
--- src/read.rt:52:11
 judge-overlaps-requires : tie.Need-judge-overlaps-requires
 judge-overlaps-requires c κs = search needs
 
--- src/read.rt:53:29
 enum-known-question : tie.Need-enum-known-question
 enum-known-question c = search needs
 
--- src/read.rt:53:49
 refuse-requires-3 : tie.Need-refuse-requires-3
 refuse-requires-3 c κs = search needs
 
--- src/read.rt:55:21
 enum-told-2 : tie.Need-enum-told-2
 enum-told-2 c = search needs
 
--- src/read.rt:39:1
 returns-3 : tie.Need-returns-3
 returns-3 c = subst (λ (o : Outcome Layer). HandedBack o (c .refuse3 .result)) (sym (body-overlap _ _ _ (c .before .before .before .before .before .before .before .before .before .before .read-pieces .result) (c .before .before .before .before .before .before .before .before .before .before .read-pieces .ensures) (c .before .before .before .before .before .before .before .before .enum-told .given .1) (c .before .before .before .before .before .before .if1 .left) (c .before .before .before .before .judge-overlaps .result) (c .before .before .before .before .judge-overlaps .ensures) _ _ (c .before .before .question .given .1))) (c .refuse3 .ensures)
 
--- src/read.rt:39:1
 returns-4 : tie.Need-returns-4
 returns-4 c = handed-layer _ _ _ (c .before .before .before .before .before .before .before .before .read-pieces .result) (c .before .before .before .before .before .before .before .before .read-pieces .ensures) (c .before .before .before .before .before .before .enum-told .given .1) (c .before .before .before .before .if1 .left) (c .before .before .judge-overlaps .result) (c .before .before .judge-overlaps .ensures) (c .before .before .before .before .before .before .before .before .before .before .pre) (c .enum-told2 .given .1)
 

@@ -10,53 +10,37 @@ use Rattle.text.proofs.Reading.{part-from}
 use Rattle.text.proofs.Layers.{layer-large, layer-refused, layer-on}
 use Rattle.text.proofs.read.read_layer.Statement.{statement}
 use Rattle.text.proofs.read.read_layer.Tie as tie
-use Rattle.text.proofs.read.read_layer.Reads as reads
-use Rattle.text.proofs.read.read_layer.Lts as lts
-use Rattle.text.proofs.header.read_header.Reads as read-header-reads
-use Rattle.text.proofs.read.read_body.Reads as read-body-reads
-use Rattle.text.proofs.read.refuse.Reads as refuse-reads
 
--- src/read.rt:68:9
 refuse-requires : tie.Need-refuse-requires
 refuse-requires c κs = search needs
 
--- src/read.rt:68:9
 returns : tie.Need-returns
 returns c = subst (λ (o : Outcome Layer). HandedBack o (c .refuse .result)) (sym (layer-large _ (c .before .if1 .taken))) (c .refuse .ensures)
 
--- src/read.rt:70:11
 read-header-requires : tie.Need-read-header-requires
 read-header-requires c κs = search needs
 
--- src/read.rt:71:22
 enum-known-settings : tie.Need-enum-known-settings
 enum-known-settings c = search needs
 
--- src/read.rt:71:56
 sub-read-body : tie.Need-sub-read-body
 sub-read-body c = subst (λ (n : ℕ). n ≤ length (c .before .before .before .before .before .before .args .text .now)) (ap headerEnd (c .before .settings .given .1)) (c .before .before .before .read-header .ensures .inside)
 
--- src/read.rt:71:56
 part-read-body-start : tie.Need-part-read-body-start
 part-read-body-start c = subst (λ (n : ℕ). n ≤ length (c .before .before .before .before .before .before .args .text .now)) (ap headerEnd (c .before .settings .given .1)) (c .before .before .before .read-header .ensures .inside)
 
--- src/read.rt:71:56
 part-read-body-end : tie.Need-part-read-body-end
 part-read-body-end c = search needs
 
--- src/read.rt:71:46
 read-body-requires : tie.Need-read-body-requires
 read-body-requires c κs = subst (λ (n : ℕ). n ≤ 512) (ap headerCount (c .before .before .settings .given .1)) (c .before .before .before .before .read-header .ensures .few)
 
--- src/read.rt:72:25
 enum-known-question : tie.Need-enum-known-question
 enum-known-question c = search needs
 
--- src/read.rt:72:44
 refuse-requires-2 : tie.Need-refuse-requires-2
 refuse-requires-2 c κs = search needs
 
--- src/read.rt:64:1
 returns-2 : tie.Need-returns-2
 returns-2 c =
     let text = c .before .before .before .before .before .before .before .before .args .text .now in
@@ -66,7 +50,6 @@ returns-2 c =
     let at = told .0 .1 .1 .0 in
     subst (λ (o : Outcome Layer). HandedBack o (c .read-body .result)) (ap (layerBody settings count) (part-from text at) ∙ sym (layer-on text (c .before .before .before .before .before .before .if1 .left) (c .before .before .before .before .before .read-header .result) (c .before .before .before .before .before .read-header .ensures) settings count at (told .1))) (c .read-body .ensures)
 
--- src/read.rt:64:1
 returns-3 : tie.Need-returns-3
 returns-3 c = subst (λ (o : Outcome Layer). HandedBack o (c .refuse2 .result)) (sym (layer-refused _ (c .before .before .before .before .before .if1 .left) (c .before .before .before .before .read-header .result) (c .before .before .before .before .read-header .ensures) _ _ (c .before .before .question .given .1))) (c .refuse2 .ensures)
 

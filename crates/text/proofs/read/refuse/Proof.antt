@@ -3,15 +3,10 @@ use borrow.Author.Needs.{needs}
 use Rattle.text.proofs.Layers.{handed-refusal}
 use Rattle.text.proofs.read.refuse.Statement.{statement}
 use Rattle.text.proofs.read.refuse.Tie as tie
-use Rattle.text.proofs.read.refuse.Reads as reads
-use Rattle.text.proofs.read.refuse.Lts as lts
-use Rattle.text.proofs.pieces.no_pieces.Reads as no-pieces-reads
 
--- src/read.rt:29:9
 no-pieces-requires : tie.Need-no-pieces-requires
 no-pieces-requires c κs = search needs
 
--- src/read.rt:19:1
 returns : tie.Need-returns
 returns c = handed-refusal _ _ _ (c .no-pieces .ensures)
 

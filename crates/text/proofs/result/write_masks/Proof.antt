@@ -13,9 +13,6 @@ use Rattle.text.proofs.Puts.{put-none, put-on}
 use Rattle.text.proofs.Laying.{masks-next, masks-room}
 use Rattle.text.proofs.result.write_masks.Statement.{statement}
 use Rattle.text.proofs.result.write_masks.Tie as tie
-use Rattle.text.proofs.result.write_masks.Reads as reads
-use Rattle.text.proofs.result.write_masks.Lts as lts
-use Rattle.text.proofs.write.write_number_line.Reads as write-number-line-reads
 
 abbrev Inv-loop : tie.InvT-loop
 Inv-loop buffer₀ at masks end₀ k₀ t6 buffer end k = (k ≤ length masks) × (length buffer ≡ length buffer₀) × Put buffer₀ at (maskLines (take k masks)) end buffer × (at + length (maskLines masks) ≤ length buffer₀)
@@ -23,39 +20,31 @@ Inv-loop buffer₀ at masks end₀ k₀ t6 buffer end k = (k ≤ length masks) �
 abbrev μ-loop : tie.MeasureT-loop
 μ-loop buffer₀ at masks end₀ k₀ t6 buffer end k = length masks - k
 
--- src/result.rt:30:5
 loop-holds : tie.Need-loop-holds Inv-loop μ-loop
 unfolding maskLines
 loop-holds c = (omega arith, refl, put-none _ _, c .before .before .pre)
 
--- src/result.rt:31:46
 slice-aggregate-write-number-line : tie.Need-slice-aggregate-write-number-line Inv-loop μ-loop
 slice-aggregate-write-number-line c = search needs
 
--- src/result.rt:31:56
 shared-slice-read-write-number-line : tie.Need-shared-slice-read-write-number-line Inv-loop μ-loop
 shared-slice-read-write-number-line c = search needs
 
--- src/result.rt:31:56
 cast-write-number-line : tie.Need-cast-write-number-line Inv-loop μ-loop
 cast-write-number-line c = omega (arith, c .shared-slice-known2 .given (c .before .before .before .before .loop .k))
 
--- src/result.rt:31:9
 write-number-line-requires : tie.Need-write-number-line-requires Inv-loop μ-loop
 unfolding ascii
 write-number-line-requires c κs =
     let inv = c .before .before .before .before .loop .inv in
     omega (arith, inv .1, inv .2 .end, inv .3, masks-room (c .before .before .before .before .before .before .before .args .masks .now) (c .before .before .before .before .loop .k) (c .before .before .before .loop-test .taken))
 
--- src/result.rt:32:9
 add-k : tie.Need-add-k Inv-loop μ-loop
 add-k c = search needs
 
--- src/result.rt:30:5
 loop-less : tie.Need-loop-less Inv-loop μ-loop
 loop-less c = search needs
 
--- src/result.rt:30:5
 loop-again : tie.Need-loop-again Inv-loop μ-loop
 unfolding ascii
 loop-again c =
@@ -70,11 +59,9 @@ loop-again c =
       inv .3,
     )
 
--- src/result.rt:24:1
 same-length : tie.Need-same-length Inv-loop μ-loop
 same-length c = c .before .loop .inv .1
 
--- src/result.rt:24:1
 returns : tie.Need-returns Inv-loop μ-loop
 returns c = subst (λ (l : List ℕ). Put (c .before .before .before .before .args .buffer .now) (c .before .before .before .before .args .at) (maskLines l) (c .before .loop .end) (c .before .loop .buffer)) (take-all (c .before .loop .k) (c .before .before .before .before .args .masks .now) (c .loop-test .left)) (c .before .loop .inv .2)
 

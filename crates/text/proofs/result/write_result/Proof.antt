@@ -11,63 +11,46 @@ use Rattle.text.proofs.Puts.{put-six, put-front}
 use Rattle.text.proofs.Laying.{result-lines, result-size}
 use Rattle.text.proofs.result.write_result.Statement.{statement}
 use Rattle.text.proofs.result.write_result.Tie as tie
-use Rattle.text.proofs.result.write_result.Reads as reads
-use Rattle.text.proofs.result.write_result.Lts as lts
-use Rattle.text.proofs.result.write_masks.Reads as write-masks-reads
-use Rattle.text.proofs.result.write_verdict.Reads as write-verdict-reads
-use Rattle.text.proofs.write.write_number_line.Reads as write-number-line-reads
 
--- src/result.rt:43:9
 write-verdict-requires : tie.Need-write-verdict-requires
 unfolding ascii
 write-verdict-requires c κs = omega (arith, result-size (runOf (c .before .before .before .args .result) (c .before .before .before .args .masks .now)), c .before .before .before .pre)
 
--- src/result.rt:44:42
 slice-aggregate-write-number-line : tie.Need-slice-aggregate-write-number-line
 slice-aggregate-write-number-line c = search needs
 
--- src/result.rt:44:9
 write-number-line-requires : tie.Need-write-number-line-requires
 unfolding ascii
 write-number-line-requires c κs = omega (arith, result-size (runOf (c .before .before .before .before .before .before .before .before .args .result) (c .before .before .before .before .before .before .before .before .args .masks .now)), c .before .before .before .before .before .before .before .before .pre, c .before .before .before .before .write-verdict .ensures .end, c .before .before .before .before .write-verdict .kept .0)
 
--- src/result.rt:45:42
 slice-aggregate-write-number-line-2 : tie.Need-slice-aggregate-write-number-line-2
 slice-aggregate-write-number-line-2 c = search needs
 
--- src/result.rt:45:9
 write-number-line-requires-2 : tie.Need-write-number-line-requires-2
 unfolding ascii
 write-number-line-requires-2 c κs = omega (arith, result-size (runOf (c .before .before .before .before .before .before .before .before .before .before .before .before .before .args .result) (c .before .before .before .before .before .before .before .before .before .before .before .before .before .args .masks .now)), c .before .before .before .before .before .before .before .before .before .before .before .before .before .pre, c .before .before .before .before .before .before .before .before .before .write-verdict .ensures .end, c .before .before .before .before .before .before .before .before .before .write-verdict .kept .0, c .before .before .before .before .write-number-line .ensures .end, c .before .before .before .before .write-number-line .kept .0)
 
--- src/result.rt:46:42
 slice-aggregate-write-number-line-3 : tie.Need-slice-aggregate-write-number-line-3
 slice-aggregate-write-number-line-3 c = search needs
 
--- src/result.rt:46:9
 write-number-line-requires-3 : tie.Need-write-number-line-requires-3
 unfolding ascii
 write-number-line-requires-3 c κs = omega (arith, result-size (runOf (c .before .before .before .before .before .before .before .before .before .before .before .before .before .before .before .before .before .before .args .result) (c .before .before .before .before .before .before .before .before .before .before .before .before .before .before .before .before .before .before .args .masks .now)), c .before .before .before .before .before .before .before .before .before .before .before .before .before .before .before .before .before .before .pre, c .before .before .before .before .before .before .before .before .before .before .before .before .before .before .write-verdict .ensures .end, c .before .before .before .before .before .before .before .before .before .before .before .before .before .before .write-verdict .kept .0, c .before .before .before .before .before .before .before .before .before .write-number-line .ensures .end, c .before .before .before .before .before .before .before .before .before .write-number-line .kept .0, c .before .before .before .before .write-number-line2 .ensures .end, c .before .before .before .before .write-number-line2 .kept .0)
 
--- src/result.rt:47:42
 slice-aggregate-write-number-line-4 : tie.Need-slice-aggregate-write-number-line-4
 slice-aggregate-write-number-line-4 c = search needs
 
--- src/result.rt:47:9
 write-number-line-requires-4 : tie.Need-write-number-line-requires-4
 unfolding ascii
 write-number-line-requires-4 c κs = omega (arith, result-size (runOf (c .before .before .before .before .before .before .before .before .before .before .before .before .before .before .before .before .before .before .before .before .before .before .before .args .result) (c .before .before .before .before .before .before .before .before .before .before .before .before .before .before .before .before .before .before .before .before .before .before .before .args .masks .now)), c .before .before .before .before .before .before .before .before .before .before .before .before .before .before .before .before .before .before .before .before .before .before .before .pre, c .before .before .before .before .before .before .before .before .before .before .before .before .before .before .before .before .before .before .before .write-verdict .ensures .end, c .before .before .before .before .before .before .before .before .before .before .before .before .before .before .before .before .before .before .before .write-verdict .kept .0, c .before .before .before .before .before .before .before .before .before .before .before .before .before .before .write-number-line .ensures .end, c .before .before .before .before .before .before .before .before .before .before .before .before .before .before .write-number-line .kept .0, c .before .before .before .before .before .before .before .before .before .write-number-line2 .ensures .end, c .before .before .before .before .before .before .before .before .before .write-number-line2 .kept .0, c .before .before .before .before .write-number-line3 .ensures .end, c .before .before .before .before .write-number-line3 .kept .0)
 
--- src/result.rt:48:5
 write-masks-requires : tie.Need-write-masks-requires
 unfolding ascii
 write-masks-requires c κs = omega (arith, result-size (runOf (c .before .before .before .before .before .before .before .before .before .before .before .before .before .before .before .before .before .before .before .before .before .before .before .before .before .before .before .args .result) (c .before .before .before .before .before .before .before .before .before .before .before .before .before .before .before .before .before .before .before .before .before .before .before .before .before .before .before .args .masks .now)), c .before .before .before .before .before .before .before .before .before .before .before .before .before .before .before .before .before .before .before .before .before .before .before .before .before .before .before .pre, c .before .before .before .before .before .before .before .before .before .before .before .before .before .before .before .before .before .before .before .before .before .before .before .write-verdict .ensures .end, c .before .before .before .before .before .before .before .before .before .before .before .before .before .before .before .before .before .before .before .before .before .before .before .write-verdict .kept .0, c .before .before .before .before .before .before .before .before .before .before .before .before .before .before .before .before .before .before .write-number-line .ensures .end, c .before .before .before .before .before .before .before .before .before .before .before .before .before .before .before .before .before .before .write-number-line .kept .0, c .before .before .before .before .before .before .before .before .before .before .before .before .before .write-number-line2 .ensures .end, c .before .before .before .before .before .before .before .before .before .before .before .before .before .write-number-line2 .kept .0, c .before .before .before .before .before .before .before .before .write-number-line3 .ensures .end, c .before .before .before .before .before .before .before .before .write-number-line3 .kept .0, c .before .before .before .write-number-line4 .ensures .end, c .before .before .before .write-number-line4 .kept .0)
 
--- src/result.rt:38:1
 same-length : tie.Need-same-length
 same-length c = c .before .before .write-masks .kept .0 ∙ c .before .before .before .before .before .before .write-number-line4 .kept .0 ∙ c .before .before .before .before .before .before .before .before .before .before .before .write-number-line3 .kept .0 ∙ c .before .before .before .before .before .before .before .before .before .before .before .before .before .before .before .before .write-number-line2 .kept .0 ∙ c .before .before .before .before .before .before .before .before .before .before .before .before .before .before .before .before .before .before .before .before .before .write-number-line .kept .0 ∙ c .before .before .before .before .before .before .before .before .before .before .before .before .before .before .before .before .before .before .before .before .before .before .before .before .before .before .write-verdict .kept .0
 
--- src/result.rt:38:1
 returns : tie.Need-returns
 unfolding ascii
 returns c =

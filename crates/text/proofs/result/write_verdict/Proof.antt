@@ -9,50 +9,37 @@ use Rattle.rules.specs.ResultText.{verdictLine}
 use Rattle.text.specs.Writing.{Put}
 use Rattle.text.proofs.result.write_verdict.Statement.{statement}
 use Rattle.text.proofs.result.write_verdict.Tie as tie
-use Rattle.text.proofs.result.write_verdict.Reads as reads
-use Rattle.text.proofs.result.write_verdict.Lts as lts
-use Rattle.text.proofs.write.write_bytes.Reads as write-bytes-reads
 
--- src/result.rt:19:38
 enum-told : tie.Need-enum-told
 enum-told c = search needs
 
--- src/result.rt:19:50
 slice-aggregate-write-bytes : tie.Need-slice-aggregate-write-bytes
 slice-aggregate-write-bytes c = search needs
 
--- src/result.rt:19:26
 write-bytes-requires : tie.Need-write-bytes-requires
 unfolding ascii
 write-bytes-requires c κs = omega (arith, c .before .before .before .before .before .pre, ap (λ (v : Verdict). length (verdictLine v)) (c .before .before .enum-told .given .1))
 
--- src/result.rt:20:38
 enum-told-2 : tie.Need-enum-told-2
 enum-told-2 c = search needs
 
--- src/result.rt:20:50
 slice-aggregate-write-bytes-2 : tie.Need-slice-aggregate-write-bytes-2
 slice-aggregate-write-bytes-2 c = search needs
 
--- src/result.rt:20:26
 write-bytes-requires-2 : tie.Need-write-bytes-requires-2
 unfolding ascii
 write-bytes-requires-2 c κs = omega (arith, c .before .before .before .before .before .pre, ap (λ (v : Verdict). length (verdictLine v)) (c .before .before .enum-told2 .given .1))
 
--- src/result.rt:14:1
 same-length : tie.Need-same-length
 same-length c = c .before .before .write-bytes .kept .0
 
--- src/result.rt:14:1
 returns : tie.Need-returns
 unfolding ascii
 returns c = subst⁻¹ (λ (v : Verdict). Put (c .before .before .before .before .before .before .before .before .args .buffer .now) (c .before .before .before .before .before .before .before .before .args .at) (verdictLine v) (c .before .before .write-bytes .result) (c .before .before .write-bytes .last .0)) (c .before .before .before .before .before .enum-told .given .1) (c .before .before .write-bytes .ensures)
 
--- src/result.rt:14:1
 same-length-2 : tie.Need-same-length-2
 same-length-2 c = c .before .before .write-bytes2 .kept .0
 
--- src/result.rt:14:1
 returns-2 : tie.Need-returns-2
 unfolding ascii
 returns-2 c = subst⁻¹ (λ (v : Verdict). Put (c .before .before .before .before .before .before .before .before .args .buffer .now) (c .before .before .before .before .before .before .before .before .args .at) (verdictLine v) (c .before .before .write-bytes2 .result) (c .before .before .write-bytes2 .last .0)) (c .before .before .before .before .before .enum-told2 .given .1) (c .before .before .write-bytes2 .ensures)

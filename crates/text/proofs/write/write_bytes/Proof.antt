@@ -8,8 +8,6 @@ use lib.Seq.{sets, take-all}
 use Rattle.text.proofs.Puts.{put-next}
 use Rattle.text.proofs.write.write_bytes.Statement.{statement}
 use Rattle.text.proofs.write.write_bytes.Tie as tie
-use Rattle.text.proofs.write.write_bytes.Reads as reads
-use Rattle.text.proofs.write.write_bytes.Lts as lts
 
 abbrev Inv-loop : tie.InvT-loop
 Inv-loop buffer₀ at bytes k₀ buffer k = (k ≤ length bytes) × (length buffer ≡ length buffer₀) × (buffer ≡ sets buffer₀ at (take k bytes)) × (at + length bytes ≤ length buffer₀)
@@ -17,45 +15,35 @@ Inv-loop buffer₀ at bytes k₀ buffer k = (k ≤ length bytes) × (length buff
 abbrev μ-loop : tie.MeasureT-loop
 μ-loop buffer₀ at bytes k₀ buffer k = length bytes - k
 
--- src/write.rt:13:5
 loop-holds : tie.Need-loop-holds Inv-loop μ-loop
 loop-holds c = (omega arith, refl, refl, c .pre)
 
--- src/write.rt:14:26
 shared-slice-read-buffer : tie.Need-shared-slice-read-buffer Inv-loop μ-loop
 shared-slice-read-buffer c = search needs
 
--- src/write.rt:14:16
 add-buffer : tie.Need-add-buffer Inv-loop μ-loop
 add-buffer c = omega arith
 
--- src/write.rt:14:9
 slice-write-buffer : tie.Need-slice-write-buffer Inv-loop μ-loop
 slice-write-buffer c = omega arith
 
--- src/write.rt:15:9
 add-k : tie.Need-add-k Inv-loop μ-loop
 add-k c = search needs
 
--- src/write.rt:13:5
 loop-less : tie.Need-loop-less Inv-loop μ-loop
 loop-less c = search needs
 
--- src/write.rt:13:5
 loop-again : tie.Need-loop-again Inv-loop μ-loop
 loop-again c =
     let inv = c .before .before .loop .inv in
     (omega arith, simp length-set (inv .1), put-next _ _ _ _ _ (c .before .loop-test .taken) (inv .2), inv .3)
 
--- src/write.rt:17:5
 add-result : tie.Need-add-result Inv-loop μ-loop
 add-result c = omega arith
 
--- src/write.rt:8:1
 same-length : tie.Need-same-length Inv-loop μ-loop
 same-length c = c .before .loop .inv .1
 
--- src/write.rt:8:1
 returns : tie.Need-returns Inv-loop μ-loop
 returns c =
     let buffer = c .before .before .args .buffer .now in

@@ -10,13 +10,7 @@ use Rattle.text.proofs.Reading.{part-from}
 use Rattle.text.proofs.Puts.{line-size, put-line}
 use Rattle.text.proofs.write.write_line.Statement.{statement}
 use Rattle.text.proofs.write.write_line.Tie as tie
-use Rattle.text.proofs.write.write_line.Reads as reads
-use Rattle.text.proofs.write.write_line.Lts as lts
-use Rattle.text.proofs.numbers.write_number.Reads as write-number-reads
-use Rattle.text.proofs.write.write_bytes.Reads as write-bytes-reads
-use Rattle.text.proofs.write.write_more.Reads as write-more-reads
 
--- src/write.rt:40:9
 write-bytes-requires : tie.Need-write-bytes-requires
 write-bytes-requires c κs =
     let key = c .before .before .before .before .args .key .now in
@@ -25,11 +19,9 @@ write-bytes-requires c κs =
     let size = line-size key numbers h in
     omega (arith, size, c .before .before .before .before .pre .1)
 
--- src/write.rt:41:44
 shared-slice-read-write-number : tie.Need-shared-slice-read-write-number
 shared-slice-read-write-number c = search needs
 
--- src/write.rt:41:9
 write-number-requires : tie.Need-write-number-requires
 write-number-requires c κs =
     let key = c .before .before .before .before .before .before .before .before .before .args .key .now in
@@ -38,19 +30,15 @@ write-number-requires c κs =
     let size = line-size key numbers h in
     omega (arith, size, c .before .before .before .before .before .before .before .before .before .pre .1, c .before .before .before .before .write-bytes .ensures .end, c .before .before .before .before .write-bytes .kept .0)
 
--- src/write.rt:42:40
 sub-write-more : tie.Need-sub-write-more
 sub-write-more c = search needs
 
--- src/write.rt:42:40
 part-write-more-start : tie.Need-part-write-more-start
 part-write-more-start c = search needs
 
--- src/write.rt:42:40
 part-write-more-end : tie.Need-part-write-more-end
 part-write-more-end c = search needs
 
--- src/write.rt:42:9
 write-more-requires : tie.Need-write-more-requires
 write-more-requires c κs =
     let key = c .before .before .before .before .before .before .before .before .before .before .before .before .before .before .args .key .now in
@@ -59,7 +47,6 @@ write-more-requires c κs =
     let size = line-size key numbers h in
     omega (arith, size, c .before .before .before .before .before .before .before .before .before .before .before .before .before .before .pre .1, c .before .before .before .before .before .before .before .before .before .write-bytes .ensures .end, c .before .before .before .before .before .before .before .before .before .write-bytes .kept .0, c .before .before .before .before .write-number .ensures .end, c .before .before .before .before .write-number .kept .0, ap (λ (l : List ℕ). length (moreNumbers l)) (part-from numbers 1))
 
--- src/write.rt:43:5
 slice-write-buffer : tie.Need-slice-write-buffer
 slice-write-buffer c =
     let key = c .before .before .before .before .before .before .before .before .before .before .before .before .before .before .before .before .before .args .key .now in
@@ -68,7 +55,6 @@ slice-write-buffer c =
     let size = line-size key numbers h in
     omega (arith, size, c .before .before .before .before .before .before .before .before .before .before .before .before .before .before .before .before .before .pre .1, c .before .before .before .before .before .before .before .before .before .before .before .before .write-bytes .ensures .end, c .before .before .before .before .before .before .before .before .before .before .before .before .write-bytes .kept .0, c .before .before .before .before .before .before .before .write-number .ensures .end, c .before .before .before .before .before .before .before .write-number .kept .0, c .before .before .write-more .ensures .end, c .before .before .write-more .kept .0, ap (λ (l : List ℕ). length (moreNumbers l)) (part-from numbers 1))
 
--- src/write.rt:44:5
 add-result : tie.Need-add-result
 add-result c =
     let key = c .before .before .before .before .before .before .before .before .before .before .before .before .before .before .before .before .before .args .key .now in
@@ -77,11 +63,9 @@ add-result c =
     let size = line-size key numbers h in
     omega (arith, size, c .before .before .before .before .before .before .before .before .before .before .before .before .before .before .before .before .before .pre .1, c .before .before .before .before .before .before .before .before .before .before .before .before .write-bytes .ensures .end, c .before .before .before .before .before .before .before .before .before .before .before .before .write-bytes .kept .0, c .before .before .before .before .before .before .before .write-number .ensures .end, c .before .before .before .before .before .before .before .write-number .kept .0, c .before .before .write-more .ensures .end, c .before .before .write-more .kept .0, ap (λ (l : List ℕ). length (moreNumbers l)) (part-from numbers 1))
 
--- src/write.rt:36:1
 same-length : tie.Need-same-length
 same-length c = simp length-set (c .before .before .write-more .kept .0 ∙ c .before .before .before .before .before .before .before .write-number .kept .0 ∙ c .before .before .before .before .before .before .before .before .before .before .before .before .write-bytes .kept .0)
 
--- src/write.rt:36:1
 returns : tie.Need-returns
 returns c =
     let key = c .before .before .before .before .before .before .before .before .before .before .before .before .before .before .before .before .before .args .key .now in

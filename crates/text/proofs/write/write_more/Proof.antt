@@ -11,9 +11,6 @@ use Rattle.text.specs.Writing.{Put, laid, moreNumbers}
 use Rattle.text.proofs.Puts.{put-none, put-on, put-comma, laid-next, laid-room}
 use Rattle.text.proofs.write.write_more.Statement.{statement}
 use Rattle.text.proofs.write.write_more.Tie as tie
-use Rattle.text.proofs.write.write_more.Reads as reads
-use Rattle.text.proofs.write.write_more.Lts as lts
-use Rattle.text.proofs.numbers.write_number.Reads as write-number-reads
 
 abbrev Inv-loop : tie.InvT-loop
 Inv-loop buffer₀ at numbers end₀ k₀ buffer end k = (k ≤ length numbers) × (length buffer ≡ length buffer₀) × Put buffer₀ at (moreNumbers (take k numbers)) end buffer × (at + length (moreNumbers numbers) ≤ length buffer₀)
@@ -21,46 +18,37 @@ Inv-loop buffer₀ at numbers end₀ k₀ buffer end k = (k ≤ length numbers) 
 abbrev μ-loop : tie.MeasureT-loop
 μ-loop buffer₀ at numbers end₀ k₀ buffer end k = length numbers - k
 
--- src/write.rt:27:5
 loop-holds : tie.Need-loop-holds Inv-loop μ-loop
 unfolding laid
 loop-holds c = (omega arith, refl, put-none _ _, c .before .before .pre)
 
--- src/write.rt:28:9
 slice-write-buffer : tie.Need-slice-write-buffer Inv-loop μ-loop
 slice-write-buffer c =
     let inv = c .before .loop .inv in
     omega (arith, inv .1, inv .2 .end, inv .3, laid-room (λ (n : ℕ). comma ∷ decimal n) 0 (c .before .before .before .before .args .numbers .now) (c .before .loop .k) (c .loop-test .taken))
 
--- src/write.rt:29:36
 add-write-number : tie.Need-add-write-number Inv-loop μ-loop
 add-write-number c =
     let inv = c .before .before .loop .inv in
     omega (arith, inv .1, inv .2 .end, inv .3, laid-room (λ (n : ℕ). comma ∷ decimal n) 0 (c .before .before .before .before .before .args .numbers .now) (c .before .before .loop .k) (c .before .loop-test .taken))
 
--- src/write.rt:29:45
 mul-write-number : tie.Need-mul-write-number Inv-loop μ-loop
 mul-write-number c = search needs
 
--- src/write.rt:29:45
 shared-slice-read-write-number : tie.Need-shared-slice-read-write-number Inv-loop μ-loop
 shared-slice-read-write-number c = search needs
 
--- src/write.rt:29:9
 write-number-requires : tie.Need-write-number-requires Inv-loop μ-loop
 write-number-requires c κs =
     let inv = c .before .before .before .loop .inv in
     simp length-set (omega (arith, inv .1, inv .2 .end, inv .3, laid-room (λ (n : ℕ). comma ∷ decimal n) 0 (c .before .before .before .before .before .before .args .numbers .now) (c .before .before .before .loop .k) (c .before .before .loop-test .taken)))
 
--- src/write.rt:30:9
 add-k : tie.Need-add-k Inv-loop μ-loop
 add-k c = search needs
 
--- src/write.rt:27:5
 loop-less : tie.Need-loop-less Inv-loop μ-loop
 loop-less c = search needs
 
--- src/write.rt:27:5
 loop-again : tie.Need-loop-again Inv-loop μ-loop
 loop-again c =
     let numbers = c .before .before .before .before .before .before .before .before .before .args .numbers .now in
@@ -78,11 +66,9 @@ loop-again c =
       inv .3,
     )
 
--- src/write.rt:21:1
 same-length : tie.Need-same-length Inv-loop μ-loop
 same-length c = c .before .loop .inv .1
 
--- src/write.rt:21:1
 returns : tie.Need-returns Inv-loop μ-loop
 returns c =
     let numbers = c .before .before .before .before .args .numbers .now in
