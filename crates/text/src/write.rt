@@ -5,6 +5,7 @@ ghost use lib.ListN.{length};
 ghost use Rattle.text.specs.Writing.{Put, moreNumbers, keyLine};
 use crate::numbers::write_number;
 
+// Bytes as they are.
 pub fn write_bytes(buffer: &mut [u8], at: usize, bytes: &[u8]) -> usize
     requires { ⌜ at + length (now bytes) ≤ length (now buffer) ⌝ }
     ensures { λ r. ⌜ Put (now (buffer .entry)) at (now (bytes .entry)) r (now (buffer .exit)) ⌝ }
