@@ -56,11 +56,11 @@ piece-length p s =
       decimal-length (p .y2) 6 (omega (arith, within-facts 0 1_000_000 (p .y2) (r .y2) .high)),
     )
 
-pub pieces-length : (ps : List Piece) → Sound ps → length (pieceLines ps) ≤ 43 * length ps
+pub piece-lines-length : (ps : List Piece) → Sound ps → length (pieceLines ps) ≤ 43 * length ps
 unfolding pieceLines
-pieces-length [] s = omega arith
-pieces-length (p ∷ ps) s =
-    omega (arith, length-append (line "piece=" (pieceNumbers p)) (pieceLines ps), piece-length p (s .0), pieces-length ps (s .1))
+piece-lines-length [] s = omega arith
+piece-lines-length (p ∷ ps) s =
+    omega (arith, length-append (line "piece=" (pieceNumbers p)) (pieceLines ps), piece-length p (s .0), piece-lines-length ps (s .1))
 
 -- the six lines
 six-length : (s : Settings) (n : ℕ) → SettingRanges s → n ≤ 512
@@ -98,7 +98,7 @@ layer-length s ps f =
       length-append (a ++ b ++ c) d,
       length-append (a ++ b) c,
       length-append a b,
-      pieces-length ps (f .pieces),
+      piece-lines-length ps (f .pieces),
     )
 
 -- ---- A result
