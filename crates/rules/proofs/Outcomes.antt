@@ -99,11 +99,3 @@ then-with o f b e next = let r = then-done o f b e in next (r .0) (r .1) (r .2)
 pub ask-yes : (t : Bool) (number : ℕ) (place : Place) → ask t number place ≡ done tt → t ≡ true
 ask-yes true number place e = refl
 ask-yes false number place e = let z : _≡_ {A = ℕ} 0 1 = cc e in absurd (omega arith)
-
--- each question of a row that passed
-pub each-passed : (question : ℕ → Outcome (Unit {0})) (n : ℕ) → askEach question n ≡ done tt → (i : ℕ) → i < n → question i ≡ done tt
-each-passed question n e = accepted (ends-each {R = λ _ _. Unit {0}} question n (λ i h. itself (question i))) e
-  where
-    itself : (o : Outcome (Unit {0})) → Ends (λ _. o ≡ done tt) (λ _ _. Unit {0}) o
-    itself (done _) = accepts refl
-    itself (refused number place) = refuses tt

@@ -43,10 +43,6 @@ setting-ranges s e =
     let t = five (masksInRange (s .masks)) (spacingInRange (s .spacing)) (marginInRange (s .margin)) (weightInRange (s .weight)) (budgetInRange (s .budget)) e in
     record { masks = t .0; spacing = t .1; margin = t .2; weight = t .3; budget = t .4 }
 
-pub ranges-settings : (s : Settings) → SettingRanges s → settingsInRange s ≡ true
-unfolding settingsInRange
-ranges-settings s r = rw (r .masks, r .spacing, r .margin, r .weight, r .budget)
-
 pub record PieceRanges (p : Piece) : Type 0 where
   pub shape : shapeInRange (p .shape) ≡ true
   pub x1 : coordinateInRange (p .x1) ≡ true

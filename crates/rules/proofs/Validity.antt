@@ -64,15 +64,19 @@ judged s ps =
     (λ _ d. record { settings = a; count = b; ranges = λ i h. c i h .0; areas = λ i h. c i h .1; apart = d })
     (judged-overlaps ps (λ j h. overlap h))
 
+pub sound-overlaps : (s : Settings) (ps : List Piece) → Sound s ps → judgeOverlaps ps ≡ done tt
+unfolding judgeOverlaps
+sound-overlaps s ps f = each-passes _ (length ps) (λ j h. rw (out-any _ (upTo j) (λ i m. f .apart i j (in-upTo j i .0 m) h)))
+
 pub sound-valid : (s : Settings) (ps : List Piece) → Sound s ps → Valid s ps
-unfolding judgeLayer judgeOverlaps judgePiece
+unfolding judgeLayer judgePiece
 sound-valid s ps f =
     rw (
       f .settings,
       f .count,
       each-passes (λ i. judgePiece (Place.Piece i) (pieceAt ps i)) (length ps) (λ i h. rw (f .ranges i h, f .areas i h)),
     )
-    (each-passes _ (length ps) (λ j h. rw (out-any _ (upTo j) (λ i m. f .apart i j (in-upTo j i .0 m) h))))
+    (sound-overlaps s ps f)
 
 pub valid-sound : (s : Settings) (ps : List Piece) → Valid s ps → Sound s ps
 valid-sound s ps v = accepted (judged s ps) v

@@ -2,8 +2,8 @@
 // 4 to 8 of RULES 11, from any numbers. The decomposition counts its result here, and the public call on records stands on
 // `score_flat`.
 mod counting;
-mod marks;
+mod flat;
 
 pub use counting::score_words;
-pub use marks::score;
-pub use marks::score_flat;
+pub use flat::score;
+pub use flat::score_flat;

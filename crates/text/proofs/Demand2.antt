@@ -17,10 +17,11 @@ use Rattle.rules.specs.LayerText.{ascii, line, pieceLines, layerText}
 use Rattle.rules.specs.Settings.{masksInRange, spacingInRange, marginInRange, weightInRange, budgetInRange, countInRange}
 use Rattle.rules.specs.Questions.{Outcome, done, refused, ask, NumberRead, readNumber, PiecesRead, readPieces, isEmpty, judgeOverlaps, Valid, Layer, readLayer}
 use Rattle.rules.specs.Demands.{States, Demand2}
-use Rattle.rules.proofs.Ranges.{SettingRanges, setting-ranges, ranges-settings}
+use Rattle.rules.proofs.Reading.{read-valid}
+use Rattle.rules.proofs.Ranges.{SettingRanges, setting-ranges}
 use Rattle.text.proofs.Written.{oneLine}
 use Rattle.rules.proofs.Outcomes.{then-with, ask-yes}
-use Rattle.text.proofs.Validity.{Sound, Fine, valid-fine, fine-valid}
+use Rattle.text.proofs.Validity.{Sound, Fine, valid-fine}
 use Rattle.text.proofs.LayerLines.{number-written, number-read, pieces-written, pieces-read}
 use Rattle.text.proofs.Sizes.{layer-length}
 
@@ -39,7 +40,6 @@ layerOf k (refused number place) = k
 -- ---- What is read is stated
 
 module _ (text : List ℕ) (masks spacing margin weight budget count : NumberRead) (read : PiecesRead)
-    (small : length text ≤ 32_768)
     (e1 : readNumber "masks=" masksInRange 1 text ≡ done masks)
     (e2 : readNumber "spacing=" spacingInRange 2 (masks .rest) ≡ done spacing)
     (e3 : readNumber "margin=" marginInRange 3 (spacing .rest) ≡ done margin)
@@ -47,8 +47,7 @@ module _ (text : List ℕ) (masks spacing margin weight budget count : NumberRea
     (e5 : readNumber "budget=" budgetInRange 5 (weight .rest) ≡ done budget)
     (e6 : readNumber "pieces=" countInRange 6 (budget .rest) ≡ done count)
     (e7 : readPieces (count .number) 7 (count .rest) ≡ done read)
-    (whole : isEmpty (read .rest) ≡ true)
-    (apart : judgeOverlaps (read .pieces) ≡ done tt) where
+    (whole : isEmpty (read .rest) ≡ true) where
   abbrev settings : Settings
   settings = record { masks = masks .number; spacing = spacing .number; margin = margin .number; weight = weight .number; budget = budget .number }
 
@@ -69,27 +68,10 @@ module _ (text : List ℕ) (masks spacing margin weight budget count : NumberRea
       ∙ sym (regroup (line "masks=" (masks .number ∷ [])) (line "spacing=" (spacing .number ∷ [])) (line "margin=" (margin .number ∷ [])) (line "weight=" (weight .number ∷ []))
       (line "budget=" (budget .number ∷ [])) (line "pieces=" (length (read .pieces) ∷ [])) (pieceLines (read .pieces)))
 
-  lines-state : States text (record { settings = settings; pieces = read .pieces })
-  lines-state = record {
-    valid = fine-valid settings (read .pieces) (record {
-      settings = ranges-settings settings (record {
-        masks = number-written "masks=" masksInRange 1 text masks e1 .1;
-        spacing = number-written "spacing=" spacingInRange 2 (masks .rest) spacing e2 .1;
-        margin = number-written "margin=" marginInRange 3 (spacing .rest) margin e3 .1;
-        weight = number-written "weight=" weightInRange 4 (margin .rest) weight e4 .1;
-        budget = number-written "budget=" budgetInRange 5 (weight .rest) budget e5 .1;
-      });
-      count = ap countInRange (pieces .1) ∙ number-written "pieces=" countInRange 6 (budget .rest) count e6 .1;
-      pieces = pieces .2;
-      overlaps = apart;
-    });
-    size = small;
-    written = lines;
-  }
-
-pub read-states : (text : List ℕ) (l : Layer) → readLayer text ≡ done l → States text l
+-- its size, and the text of what was read
+read-written : (text : List ℕ) (l : Layer) → readLayer text ≡ done l → (length text ≤ 32_768) × (text ≡ layerText (l .settings) (l .pieces))
 unfolding readLayer
-read-states text l e =
+read-written text l e =
     then-with (ask (leb (length text) 32_768) 2 Place.Nothing) _ l e λ _ e0 k0.
     then-with (readNumber "masks=" masksInRange 1 text) _ l k0 λ masks e1 k1.
     then-with (readNumber "spacing=" spacingInRange 2 (masks .rest)) _ l k1 λ spacing e2 k2.
@@ -100,10 +82,15 @@ read-states text l e =
     then-with (readPieces (count .number) 7 (count .rest)) _ l k6 λ read e7 k7.
     then-with (ask (isEmpty (read .rest)) 3 (Place.Line (7 + count .number))) _ l k7 λ _ e8 k8.
     then-with (judgeOverlaps (read .pieces)) _ l k8 λ _ e9 k9.
-    subst (States text) (ap (layerOf l) k9)
-    (lines-state text masks spacing margin weight budget count read
-    (leb-true (length text) 32_768 (ask-yes (leb (length text) 32_768) 2 Place.Nothing e0)) e1 e2 e3 e4 e5 e6 e7
-    (ask-yes (isEmpty (read .rest)) 3 (Place.Line (7 + count .number)) e8) e9)
+    subst (λ (m : Layer). (length text ≤ 32_768) × (text ≡ layerText (m .settings) (m .pieces))) (ap (layerOf l) k9) (
+      leb-true (length text) 32_768 (ask-yes (leb (length text) 32_768) 2 Place.Nothing e0),
+      lines text masks spacing margin weight budget count read e1 e2 e3 e4 e5 e6 e7 (ask-yes (isEmpty (read .rest)) 3 (Place.Line (7 + count .number)) e8),
+    )
+
+pub read-states : (text : List ℕ) (l : Layer) → readLayer text ≡ done l → States text l
+read-states text l e =
+    let r = read-written text l e in
+    record { valid = read-valid text l e; size = r .0; written = r .1 }
 
 -- ---- What is stated is read
 

@@ -9,8 +9,9 @@ use Rattle.rules.specs.declared.layer.Settings.{Settings}
 use Rattle.rules.specs.declared.layer.Piece.{Piece}
 use Rattle.rules.specs.declared.refusal.Place.{Place}
 use Rattle.rules.specs.Settings.{settingsInRange, countInRange, pieceInRange, hasArea, pieceAt}
-use Rattle.rules.proofs.Outcomes.{then-done, ask-yes, each-passed, each-passes}
-use Rattle.rules.specs.Questions.{Outcome, done, ask, andThen, askEach, judgePiece, judgeOverlaps, judgeLayer, Valid}
+use Rattle.rules.proofs.Validity.{valid-sound, sound-overlaps}
+use Rattle.rules.proofs.Outcomes.{then-done, ask-yes}
+use Rattle.rules.specs.Questions.{done, ask, judgePiece, judgeOverlaps, Valid}
 
 -- ---- Pieces
 
@@ -50,24 +51,12 @@ pub record Fine (s : Settings) (ps : List Piece) : Type 0 where
   pub pieces : Sound ps
   pub overlaps : judgeOverlaps ps ≡ done tt
 
-module _ (s : Settings) (ps : List Piece) where
-  abbrev pieceQuestion : ℕ → Outcome (Unit {0})
-  pieceQuestion i = judgePiece (Place.Piece i) (pieceAt ps i)
-
-  pub valid-fine : Valid s ps → Fine s ps
-  unfolding judgeLayer
-  valid-fine e =
-      let r1 = then-done (ask (settingsInRange s) 4 Place.Nothing) (λ _. andThen (ask (countInRange (length ps)) 4 Place.Nothing) λ _. andThen (askEach pieceQuestion (length ps)) λ _. judgeOverlaps ps) tt e in
-      let r2 = then-done (ask (countInRange (length ps)) 4 Place.Nothing) (λ _. andThen (askEach pieceQuestion (length ps)) λ _. judgeOverlaps ps) tt (r1 .2) in
-      let r3 = then-done (askEach pieceQuestion (length ps)) (λ _. judgeOverlaps ps) tt (r2 .2) in
-      record {
-        settings = ask-yes (settingsInRange s) 4 Place.Nothing (r1 .1);
-        count = ask-yes (countInRange (length ps)) 4 Place.Nothing (r2 .1);
-        pieces = at-sound ps (λ i h. piece-sound (Place.Piece i) (pieceAt ps i) (each-passed pieceQuestion (length ps) (r3 .1) i h));
-        overlaps = r3 .2;
-      }
-
-  pub fine-valid : Fine s ps → Valid s ps
-  unfolding judgeLayer
-  fine-valid f =
-      rw (f .settings, judgeLayer) (rw (f .count) (rw (each-passes pieceQuestion (length ps) (λ i h. sound-piece (Place.Piece i) (pieceAt ps i) (sound-at ps (f .pieces) i h))) (f .overlaps)))
+pub valid-fine : (s : Settings) (ps : List Piece) → Valid s ps → Fine s ps
+valid-fine s ps valid =
+    let f = valid-sound s ps valid in
+    record {
+      settings = f .settings;
+      count = f .count;
+      pieces = at-sound ps (λ i h. record { range = f .ranges i h; area = f .areas i h });
+      overlaps = sound-overlaps s ps f;
+    }

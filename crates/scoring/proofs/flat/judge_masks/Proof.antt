@@ -7,8 +7,8 @@ use lib.ListN.{length}
 use Rattle.rules.specs.Questions.{done, askEach}
 use Rattle.rules.proofs.Outcomes.{each-next, each-refused}
 use Rattle.scoring.specs.Counts.{maskQuestion}
-use Rattle.scoring.proofs.marks.judge_masks.Statement.{statement}
-use Rattle.scoring.proofs.marks.judge_masks.Tie as tie
+use Rattle.scoring.proofs.flat.judge_masks.Statement.{statement}
+use Rattle.scoring.proofs.flat.judge_masks.Tie as tie
 
 abbrev Inv-loop : tie.InvT-loop
 Inv-loop limit masks i₀ i = (i ≤ length masks) × (askEach (maskQuestion limit masks) i ≡ done tt)

@@ -9,8 +9,8 @@ use Rattle.layout.specs.Flat.{piecesOf}
 use Rattle.layout.specs.Judged.{judgement}
 use Rattle.layout.proofs.PieceLaws.{valid-flat}
 use Rattle.scoring.proofs.ScoreLaws.{masks-of}
-use Rattle.scoring.proofs.marks.score_flat.Statement.{statement}
-use Rattle.scoring.proofs.marks.score_flat.Tie as tie
+use Rattle.scoring.proofs.flat.score_flat.Statement.{statement}
+use Rattle.scoring.proofs.flat.score_flat.Tie as tie
 
 judge-requires : tie.Need-judge-requires
 judge-requires c κs = search needs

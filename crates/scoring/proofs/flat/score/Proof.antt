@@ -3,8 +3,8 @@ use mathlib.Core.Path.{_∙_}
 use Rattle.rules.proofs.Ranges.{settings-facts}
 use Rattle.layout.proofs.PieceLaws.{valid-flat}
 use Rattle.scoring.proofs.ScoreLaws.{words-score}
-use Rattle.scoring.proofs.marks.score.Statement.{statement}
-use Rattle.scoring.proofs.marks.score.Tie as tie
+use Rattle.scoring.proofs.flat.score.Statement.{statement}
+use Rattle.scoring.proofs.flat.score.Tie as tie
 
 adjacency-requires : tie.Need-adjacency-requires
 adjacency-requires c κs = c .before .before .before .pre .0
