@@ -5,7 +5,7 @@ use mathlib.Core.Bool.{true, false}
 use mathlib.Core.List.{[], _∷_, _++_}
 use Prim.Native.Nat.{_^_}
 use lib.ListN.{replicate}
-use Rattle.bitset.specs.Bits.{bit, member, joined, countBelow}
+use Rattle.bitset.specs.Bits.{bit, member, hasEdge, countBelow}
 
 bit-2-of-5 : bit 5 2 ≡ true
 unfolding bit
@@ -27,7 +27,7 @@ past-the-end : member (1 ∷ []) 64 ≡ false
 unfolding member bit
 past-the-end = refl
 
-row-1-has-2 : joined (replicate 8 0 ++ 4 ∷ []) 1 2 ≡ true
+row-1-has-2 : hasEdge (replicate 8 0 ++ 4 ∷ []) 1 2 ≡ true
 unfolding member bit
 row-1-has-2 = refl
 

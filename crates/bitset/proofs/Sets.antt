@@ -1,4 +1,4 @@
--- Laws of `member` and `joined`: a word of a set and of a row, a set after one of its words is stored, sets of none and of
+-- Laws of `member` and `hasEdge`: a word of a set and of a row, a set after one of its words is stored, sets of none and of
 -- the numbers below a bound, and counts a word at a time. A member is a word and a place there, so each law is one on a
 -- word's bits, and the place is found by arithmetic.
 -- Assumes nothing.
@@ -13,7 +13,7 @@ use lib.ListN.{length, getD, set, replicate, length-replicate, getD-replicate, L
 use lib.Seq.{getD-set-same, getD-set-other}
 use lib.Bits.{bitAnd, bitOr}
 use borrow.Author.Tests.{eq-eqb, ne-eqb, lt-ltb, le-ltb}
-use Rattle.bitset.specs.Bits.{bit, member, joined, both, countBelow}
+use Rattle.bitset.specs.Bits.{bit, member, hasEdge, both, countBelow}
 use Rattle.bitset.proofs.Counts.{count-add, count-ext}
 use Rattle.bitset.proofs.Words.{bit-and, bit-or, bit-not, bit-shl, bit-ones, bit-of-zero}
 
@@ -43,8 +43,8 @@ member-at s w k h =
     let r : (64 * w + k) % 64 ≡ k = omega arith in
     rw (q, r)
 
-pub joined-at : (adj : List ℕ) (i j : ℕ) → joined adj i j ≡ bit (getD adj (8 * i + j / 64) 0) (j % 64)
-joined-at adj i j =
+pub hasEdge-at : (adj : List ℕ) (i j : ℕ) → hasEdge adj i j ≡ bit (getD adj (8 * i + j / 64) 0) (j % 64)
+hasEdge-at adj i j =
     let e : 512 * i + j ≡ 64 * (8 * i + j / 64) + j % 64 = omega arith in
     rw e (member-at adj (8 * i + j / 64) (j % 64) (omega arith))
 

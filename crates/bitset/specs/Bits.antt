@@ -19,12 +19,12 @@ unfoldable pub member : List ℕ → ℕ → Bool
 member s j = bit (getD s (j / 64) 0) (j % 64)
 
 -- whether row i of the matrix adj, 512 bits to a row, has bit j
-abbrev pub joined : List ℕ → ℕ → ℕ → Bool
-joined adj i j = member adj (512 * i + j)
+abbrev pub hasEdge : List ℕ → ℕ → ℕ → Bool
+hasEdge adj i j = member adj (512 * i + j)
 
 -- whether j is in row i of the matrix and in the set
 abbrev pub both : List ℕ → ℕ → List ℕ → ℕ → Bool
-both adj i s j = joined adj i j && member s j
+both adj i s j = hasEdge adj i j && member s j
 
 -- how many k below n pass the test f
 unfoldable pub countBelow : ℕ → (ℕ → Bool) → ℕ

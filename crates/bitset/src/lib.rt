@@ -8,7 +8,7 @@ ghost use mathlib.Core.Path.{_≡_};
 ghost use mathlib.Core.Bool.{_&&_, _||_, not, false};
 ghost use Prim.Native.Nat.{ℕ, _<_, _≤_};
 ghost use lib.Dec.{eqb, ltb};
-ghost use Rattle.bitset.specs.Bits.{bit, member, joined, both, countBelow, Empty, Size, First, LowestSet, Dropped, Lowest, WithMask};
+ghost use Rattle.bitset.specs.Bits.{bit, member, hasEdge, both, countBelow, Empty, Size, First, LowestSet, Dropped, Lowest, WithMask};
 
 // ---- sets
 
@@ -135,7 +135,7 @@ pub fn lowest_in_row(adj: &[u64; 4096], i: usize, s: &[u64; 8]) -> usize
 pub fn has_edge(adj: &[u64; 4096], i: usize, j: usize) -> bool
     requires { ⌜ i < 512 ⌝ }
     requires { ⌜ j < 512 ⌝ }
-    ensures { λ r. ⌜ r ≡ joined (now (adj .entry)) i j ⌝ }
+    ensures { λ r. ⌜ r ≡ hasEdge (now (adj .entry)) i j ⌝ }
 {
     adj[8 * i + j / 64] >> (j % 64) & 1 == 1
 }
@@ -144,7 +144,7 @@ pub fn has_edge(adj: &[u64; 4096], i: usize, j: usize) -> bool
 fn mark(adj: &mut [u64; 4096], i: usize, j: usize)
     requires { ⌜ i < 512 ⌝ }
     requires { ⌜ j < 512 ⌝ }
-    ensures { λ _. ⌜ ((a b : ℕ) → b < 512 → joined (now (adj .exit)) a b ≡ (joined (now (adj .entry)) a b || (eqb a i && eqb b j))) ⌝ }
+    ensures { λ _. ⌜ ((a b : ℕ) → b < 512 → hasEdge (now (adj .exit)) a b ≡ (hasEdge (now (adj .entry)) a b || (eqb a i && eqb b j))) ⌝ }
 {
     let words: &mut [u64] = adj;
     words[8 * i + j / 64] |= 1u64 << (j % 64);
@@ -154,7 +154,7 @@ fn mark(adj: &mut [u64; 4096], i: usize, j: usize)
 pub fn join(adj: &mut [u64; 4096], i: usize, j: usize)
     requires { ⌜ i < 512 ⌝ }
     requires { ⌜ j < 512 ⌝ }
-    ensures { λ _. ⌜ ((a b : ℕ) → b < 512 → joined (now (adj .exit)) a b ≡ (joined (now (adj .entry)) a b || (eqb a i && eqb b j) || (eqb a j && eqb b i))) ⌝ }
+    ensures { λ _. ⌜ ((a b : ℕ) → b < 512 → hasEdge (now (adj .exit)) a b ≡ (hasEdge (now (adj .entry)) a b || (eqb a i && eqb b j) || (eqb a j && eqb b i))) ⌝ }
 {
     mark(adj, i, j);
     mark(adj, j, i);

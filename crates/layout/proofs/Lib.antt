@@ -1,4 +1,4 @@
 -- What the functions' proofs cite, and other crates may: laws of pieces as numbers and of adjacency words.
 pub mod PieceLaws
-pub mod MatrixLaws
+pub mod AdjacencyLaws
 pub mod Squares

@@ -5,7 +5,7 @@ use mathlib.Core.List.{List}
 use mathlib.Core.Path.{_≡_}
 use Prim.Native.Nat.{ℕ, _<_, min, max}
 use lib.Dec.{eqb, ltb}
-use Rattle.bitset.specs.Bits.{joined}
+use Rattle.bitset.specs.Bits.{hasEdge}
 use Rattle.rules.specs.declared.layer.Settings.{Settings}
 use Rattle.rules.specs.declared.layer.Piece.{Piece}
 use Rattle.rules.specs.Edges.{conflictEdge, stitchEdge, graphOf}
@@ -28,11 +28,11 @@ inRow i j a b = ltb (min a b) i && eqb (max a b) j
 
 -- the words after the edges between j and the numbers below i were added
 pub record RowTo (edge : ℕ → ℕ → Bool) (i j : ℕ) (before after : List ℕ) : Type 0 where
-  pub bits : (a b : ℕ) → b < 512 → joined after a b ≡ (joined before a b || (edge a b && inRow i j a b))
+  pub bits : (a b : ℕ) → b < 512 → hasEdge after a b ≡ (hasEdge before a b || (edge a b && inRow i j a b))
 
 -- The words hold the edges between the numbers below n: bit (a, b) is set exactly where both are below n and joined.
 pub record Holds (edges : ℕ → ℕ → ℕ) (n : ℕ) (words : List ℕ) : Type 0 where
-  pub bits : (a b : ℕ) → b < 512 → joined words a b ≡ (ltb a n && ltb b n && ltb 0 (edges a b))
+  pub bits : (a b : ℕ) → b < 512 → hasEdge words a b ≡ (ltb a n && ltb b n && ltb 0 (edges a b))
 
 -- the words of both kinds of edges, of a layer of n pieces
 pub record Adjacency (s : Settings) (ps : List Piece) (n : ℕ) (conflictWords stitchWords : List ℕ) : Type 0 where

@@ -139,7 +139,7 @@ fn write_rows(conflicts: &[u64; 4096], stitches: &[u64; 4096], n: usize)
     }
 }
 
-// The matrices of a layer that passes, which are filled whatever was in them.
+// The adjacency words of a layer that passes, which are filled whatever was in them.
 fn show_adjacency(flat: &[u32; 2560], n: usize) {
     let s = settings(2);
     let judged = layout::judge(s, flat, n);
@@ -149,7 +149,7 @@ fn show_adjacency(flat: &[u32; 2560], n: usize) {
     }
     let mut conflicts = [7u64; 4096];
     let mut stitches = [7u64; 4096];
-    layout::adjacency(s, flat, n, &mut conflicts, &mut stitches);
+    layout::adjacency_words(s, flat, n, &mut conflicts, &mut stitches);
     write_rows(&conflicts, &stitches, n);
 }
 

@@ -8,7 +8,7 @@ use native.Mathlib.Omega.{arith}
 use borrow.Author.Tests.{lt-ltb}
 use lib.Dec.{eqb}
 use lib.ListN.{length}
-use Rattle.bitset.specs.Bits.{joined}
+use Rattle.bitset.specs.Bits.{hasEdge}
 use Rattle.rules.specs.declared.layer.Settings.{Settings}
 use Rattle.rules.specs.declared.layer.Piece.{Piece}
 use Rattle.rules.specs.declared.refusal.Place.{Place}
@@ -21,7 +21,7 @@ use Rattle.rules.specs.Calls.{scoreMasks}
 use Rattle.layout.specs.Flat.{piecesOf}
 use Rattle.layout.specs.Adjacency.{Holds, Adjacency}
 use Rattle.layout.proofs.PieceLaws.{pieces-length}
-use Rattle.layout.proofs.MatrixLaws.{given-test}
+use Rattle.layout.proofs.AdjacencyLaws.{given-test}
 use Rattle.scoring.specs.Counts.{graphIn, conflictIn, stitchIn, maskQuestion}
 use Rattle.rules.proofs.Sums.{pairs-ext, pairs-small}
 
@@ -32,10 +32,10 @@ given-le true h = h
 given-le false h = omega arith
 
 pub conflict-le : (words masks : List ℕ) (u v : ℕ) → conflictIn words masks u v ≤ 1
-conflict-le words masks u v = given-le (sameMask masks u v) (given-le (joined words u v) (omega arith))
+conflict-le words masks u v = given-le (sameMask masks u v) (given-le (hasEdge words u v) (omega arith))
 
 pub stitch-le : (words masks : List ℕ) (u v : ℕ) → stitchIn words masks u v ≤ 1
-stitch-le words masks u v = given-le (not (sameMask masks u v)) (given-le (joined words u v) (omega arith))
+stitch-le words masks u v = given-le (not (sameMask masks u v)) (given-le (hasEdge words u v) (omega arith))
 
 -- counts of any graph with at most one edge of a kind between two vertices
 pub conflicts-small : (g : Graph) (masks : List ℕ) (n : ℕ) → ((u v : ℕ) → g .conflicts u v ≤ 1) → n ≤ 512 → conflictsOf g masks n ≤ 130_816
@@ -52,9 +52,9 @@ cost-small w c s = omega (arith, mul-le-mul w c)
 -- ---- words and graph
 
 held : (joins : ℕ → ℕ → Bool) (n : ℕ) (words : List ℕ) → Holds (λ a b. given (joins a b) 1) n words → n ≤ 512
-    → (u v : ℕ) → u < v → v < n → given (joined words u v) 1 ≡ given (joins u v) 1
+    → (u v : ℕ) → u < v → v < n → given (hasEdge words u v) 1 ≡ given (joins u v) 1
 held joins n words holds l u v h k =
-    let e : joined words u v ≡ joins u v = holds .bits u v (omega arith) ∙ rw (lt-ltb u n (omega arith), lt-ltb v n k) (given-test (joins u v)) in
+    let e : hasEdge words u v ≡ joins u v = holds .bits u v (omega arith) ∙ rw (lt-ltb u n (omega arith), lt-ltb v n k) (given-test (joins u v)) in
     rw e
 
 pub words-score : (weight : ℕ) (s : Settings) (ps : List Piece) (n : ℕ) (conflicts stitches masks : List ℕ) → Adjacency s ps n conflicts stitches → n ≤ 512

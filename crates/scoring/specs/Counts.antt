@@ -5,7 +5,7 @@ use mathlib.Core.Path.{_≡_}
 use Prim.Native.Nat.{ℕ}
 use lib.Dec.{ltb}
 use lib.ListN.{getD}
-use Rattle.bitset.specs.Bits.{joined}
+use Rattle.bitset.specs.Bits.{hasEdge}
 use Rattle.rules.specs.declared.refusal.Place.{Place}
 use Rattle.rules.specs.Basics.{given, sumTo}
 use Rattle.rules.specs.Edges.{Graph}
@@ -16,16 +16,16 @@ use Rattle.scoring.specs.declared.counting.Tally.{Tally}
 -- two vertices have an edge of a kind where its words join them
 abbrev pub graphIn : List ℕ → List ℕ → Graph
 graphIn conflicts stitches = record {
-  conflicts = λ u v. given (joined conflicts u v) 1;
-  stitches = λ u v. given (joined stitches u v) 1;
+  conflicts = λ u v. given (hasEdge conflicts u v) 1;
+  stitches = λ u v. given (hasEdge stitches u v) 1;
 }
 
 -- the conflict that u and v count for by the words of conflict edges, and the stitch by those of stitch edges
 abbrev pub conflictIn : List ℕ → List ℕ → ℕ → ℕ → ℕ
-conflictIn words masks u v = given (sameMask masks u v) (given (joined words u v) 1)
+conflictIn words masks u v = given (sameMask masks u v) (given (hasEdge words u v) 1)
 
 abbrev pub stitchIn : List ℕ → List ℕ → ℕ → ℕ → ℕ
-stitchIn words masks u v = given (not (sameMask masks u v)) (given (joined words u v) 1)
+stitchIn words masks u v = given (not (sameMask masks u v)) (given (hasEdge words u v) 1)
 
 -- what the pairs of v and a lesser number count for
 pub record RowCount (conflictWords stitchWords masks : List ℕ) (v : ℕ) (t : Tally) : Type 0 where

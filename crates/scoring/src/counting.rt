@@ -3,7 +3,7 @@ ghost use mathlib.Core.Path.{_≡_};
 ghost use Prim.Native.Nat.{_<_, _≤_};
 ghost use lib.ListN.{length};
 ghost use Rattle.rules.specs.Basics.{given};
-ghost use Rattle.rules.specs.Score.{scoreOf};
+ghost use Rattle.rules.specs.Score.{scoreOf, costOf};
 ghost use Rattle.scoring.specs.Counts.{graphIn, conflictIn, stitchIn, RowCount};
 use rules::Score;
 
@@ -54,18 +54,28 @@ fn count_row(conflicts: &[u64; 4096], stitches: &[u64; 4096], masks: &[u8], j: u
     requires { ⌜ j < length (now masks) ⌝ }
     ensures { λ r. ⌜ RowCount (now (conflicts .entry)) (now (stitches .entry)) (now (masks .entry)) j r ⌝ }
 {
-    let mut same: u32 = 0;
-    let mut cut: u32 = 0;
+    let mut conflict_count: u32 = 0;
+    let mut stitch_count: u32 = 0;
     let mut i = 0;
     while i < j {
-        same += conflict_in(conflicts, masks, i, j);
-        cut += stitch_in(stitches, masks, i, j);
+        conflict_count += conflict_in(conflicts, masks, i, j);
+        stitch_count += stitch_in(stitches, masks, i, j);
         i += 1;
     }
     Tally {
-        conflicts: same,
-        stitches: cut,
+        conflicts: conflict_count,
+        stitches: stitch_count,
     }
+}
+
+// What conflicts and stitches cost. There is at most one of each for each pair.
+fn cost_of(weight: u32, conflicts: u32, stitches: u32) -> u32
+    requires { ⌜ weight ≤ 1000 ⌝ }
+    requires { ⌜ conflicts ≤ 130816 ⌝ }
+    requires { ⌜ stitches ≤ 130816 ⌝ }
+    ensures { λ r. ⌜ r ≡ costOf weight conflicts stitches ⌝ }
+{
+    weight * conflicts + stitches
 }
 
 // The score of masks by adjacency words of the numbers below n.
@@ -81,18 +91,18 @@ pub fn score_words(
     requires { ⌜ length (now masks) ≡ n ⌝ }
     ensures { λ r. ⌜ r ≡ scoreOf weight (graphIn (now (conflicts .entry)) (now (stitches .entry))) (now (masks .entry)) n ⌝ }
 {
-    let mut same: u32 = 0;
-    let mut cut: u32 = 0;
+    let mut conflict_count: u32 = 0;
+    let mut stitch_count: u32 = 0;
     let mut j = 0;
     while j < n {
         let row = count_row(conflicts, stitches, masks, j);
-        same += row.conflicts;
-        cut += row.stitches;
+        conflict_count += row.conflicts;
+        stitch_count += row.stitches;
         j += 1;
     }
     Score {
-        conflicts: same,
-        stitches: cut,
-        cost: weight * same + cut,
+        conflicts: conflict_count,
+        stitches: stitch_count,
+        cost: cost_of(weight, conflict_count, stitch_count),
     }
 }

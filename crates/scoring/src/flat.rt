@@ -26,7 +26,7 @@ pub fn score(settings: Settings, flat: &[u32; 2560], n: usize, masks: &[u8]) -> 
 {
     let mut conflicts = [0u64; 4096];
     let mut stitches = [0u64; 4096];
-    layout::adjacency(settings, flat, n, &mut conflicts, &mut stitches);
+    layout::adjacency_words(settings, flat, n, &mut conflicts, &mut stitches);
     score_words(settings.weight, &conflicts, &stitches, n, masks)
 }
 

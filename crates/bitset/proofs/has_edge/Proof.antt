@@ -3,7 +3,7 @@ use borrow.Author.Needs.{needs}
 use mathlib.Core.Path.{sym, _∙_}
 use Prim.Native.Nat.{_+_, _*_, _/_, _%_}
 use lib.ListN.{getD}
-use Rattle.bitset.proofs.Sets.{joined-at}
+use Rattle.bitset.proofs.Sets.{hasEdge-at}
 use Rattle.bitset.proofs.Words.{bit-test}
 use Rattle.bitset.proofs.has_edge.Statement.{statement}
 use Rattle.bitset.proofs.has_edge.Tie as tie
@@ -26,7 +26,7 @@ shr-result c = search needs
 returns : tie.Need-returns
 returns c =
     let at = c .before .args in
-    bit-test (getD (at .adj .now) (8 * at .i + at .j / 64) 0) (at .j % 64) ∙ sym (joined-at (at .adj .now) (at .i) (at .j))
+    bit-test (getD (at .adj .now) (8 * at .i + at .j / 64) 0) (at .j % 64) ∙ sym (hasEdge-at (at .adj .now) (at .i) (at .j))
 
 pub has-edge-spec : {M : Type 1} → statement M
 has-edge-spec =

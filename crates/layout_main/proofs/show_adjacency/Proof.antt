@@ -29,8 +29,8 @@ enum-told c = search needs
 valid : (c : tie.After-enum-told) → Valid (c .before .before .before .settings .result) (piecesOf (c .before .before .before .before .args .flat .now) (c .before .before .before .before .args .n))
 valid c = sym (c .before .before .judge .ensures) ∙ ap judgement (c .enum-told .given .1)
 
-adjacency-requires : tie.Need-adjacency-requires
-adjacency-requires c κs = valid (c .before .before)
+adjacency-words-requires : tie.Need-adjacency-words-requires
+adjacency-words-requires c κs = valid (c .before .before)
 
 write-rows-requires : tie.Need-write-rows-requires
 write-rows-requires c κs = valid-flat _ _ _ (valid (c .before .before .before .before .before)) .count
@@ -48,6 +48,6 @@ show-adjacency-spec =
     write-refusal-requires
     returns
     enum-told
-    adjacency-requires
+    adjacency-words-requires
     write-rows-requires
     returns-2)

@@ -10,11 +10,11 @@ use Rattle.scoring.proofs.counting.count_row.Statement.{statement}
 use Rattle.scoring.proofs.counting.count_row.Tie as tie
 
 abbrev Inv-loop : tie.InvT-loop
-Inv-loop conflicts stitches masks j same₀ cut₀ i₀ same cut i =
-    (i ≤ j) × (same ≡ sumTo (λ u. conflictIn conflicts masks u j) i) × (cut ≡ sumTo (λ u. stitchIn stitches masks u j) i)
+Inv-loop conflicts stitches masks j conflict-count₀ stitch-count₀ i₀ conflict-count stitch-count i =
+    (i ≤ j) × (conflict-count ≡ sumTo (λ u. conflictIn conflicts masks u j) i) × (stitch-count ≡ sumTo (λ u. stitchIn stitches masks u j) i)
 
 abbrev μ-loop : tie.MeasureT-loop
-μ-loop conflicts stitches masks j same₀ cut₀ i₀ same cut i = j - i
+μ-loop conflicts stitches masks j conflict-count₀ stitch-count₀ i₀ conflict-count stitch-count i = j - i
 
 loop-holds : tie.Need-loop-holds Inv-loop μ-loop
 unfolding sumTo
@@ -27,14 +27,14 @@ conflict-in-requires c κs = omega arith
 conflicts : (c : tie.After-conflict-in Inv-loop μ-loop) →
     let at = c .before .before .loop in
     let a = c .before .before .before .before .args in
-    (at .same + c .conflict-in .result ≡ sumTo (λ u. conflictIn (a .conflicts .now) (a .masks .now) u (a .j)) (at .i + 1))
-    × (at .same + c .conflict-in .result ≤ at .i + 1)
+    (at .conflict-count + c .conflict-in .result ≡ sumTo (λ u. conflictIn (a .conflicts .now) (a .masks .now) u (a .j)) (at .i + 1))
+    × (at .conflict-count + c .conflict-in .result ≤ at .i + 1)
 conflicts c =
     let a = c .before .before .before .before .args in
     sum-more _ _ (λ u. conflict-le (a .conflicts .now) (a .masks .now) u (a .j)) (c .before .before .loop .inv .1) (c .conflict-in .ensures)
 
-add-same : tie.Need-add-same Inv-loop μ-loop
-add-same c = omega (arith, conflicts c)
+add-conflict-count : tie.Need-add-conflict-count Inv-loop μ-loop
+add-conflict-count c = omega (arith, conflicts c)
 
 stitch-in-requires : tie.Need-stitch-in-requires Inv-loop μ-loop
 stitch-in-requires c κs = omega arith
@@ -42,14 +42,14 @@ stitch-in-requires c κs = omega arith
 stitches : (c : tie.After-stitch-in Inv-loop μ-loop) →
     let at = c .before .before .before .loop in
     let a = c .before .before .before .before .before .args in
-    (at .cut + c .stitch-in .result ≡ sumTo (λ u. stitchIn (a .stitches .now) (a .masks .now) u (a .j)) (at .i + 1))
-    × (at .cut + c .stitch-in .result ≤ at .i + 1)
+    (at .stitch-count + c .stitch-in .result ≡ sumTo (λ u. stitchIn (a .stitches .now) (a .masks .now) u (a .j)) (at .i + 1))
+    × (at .stitch-count + c .stitch-in .result ≤ at .i + 1)
 stitches c =
     let a = c .before .before .before .before .before .args in
     sum-more _ _ (λ u. stitch-le (a .stitches .now) (a .masks .now) u (a .j)) (c .before .before .before .loop .inv .2) (c .stitch-in .ensures)
 
-add-cut : tie.Need-add-cut Inv-loop μ-loop
-add-cut c = omega (arith, stitches c)
+add-stitch-count : tie.Need-add-stitch-count Inv-loop μ-loop
+add-stitch-count c = omega (arith, stitches c)
 
 add-i : tie.Need-add-i Inv-loop μ-loop
 add-i c = omega arith
@@ -74,9 +74,9 @@ count-row-spec =
     μ-loop
     loop-holds
     conflict-in-requires
-    add-same
+    add-conflict-count
     stitch-in-requires
-    add-cut
+    add-stitch-count
     add-i
     loop-less
     loop-again

@@ -7,16 +7,16 @@ use Rattle.rules.specs.Basics.{sumTo, sumPairs}
 use Rattle.rules.specs.Score.{scoreOf, conflictsOf, stitchesOf}
 use Rattle.scoring.specs.Counts.{conflictIn, stitchIn}
 use Rattle.rules.proofs.Sums.{pairs-more, pairs-small}
-use Rattle.scoring.proofs.ScoreLaws.{conflict-le, stitch-le, cost-small}
+use Rattle.scoring.proofs.ScoreLaws.{conflict-le, stitch-le}
 use Rattle.scoring.proofs.counting.score_words.Statement.{statement}
 use Rattle.scoring.proofs.counting.score_words.Tie as tie
 
 abbrev Inv-loop : tie.InvT-loop
-Inv-loop weight conflicts stitches n masks same₀ cut₀ j₀ same cut j =
-    (j ≤ n) × (same ≡ sumPairs (conflictIn conflicts masks) j) × (cut ≡ sumPairs (stitchIn stitches masks) j)
+Inv-loop weight conflicts stitches n masks conflict-count₀ stitch-count₀ j₀ conflict-count stitch-count j =
+    (j ≤ n) × (conflict-count ≡ sumPairs (conflictIn conflicts masks) j) × (stitch-count ≡ sumPairs (stitchIn stitches masks) j)
 
 abbrev μ-loop : tie.MeasureT-loop
-μ-loop weight conflicts stitches n masks same₀ cut₀ j₀ same cut j = n - j
+μ-loop weight conflicts stitches n masks conflict-count₀ stitch-count₀ j₀ conflict-count stitch-count j = n - j
 
 loop-holds : tie.Need-loop-holds Inv-loop μ-loop
 unfolding sumPairs sumTo
@@ -29,8 +29,8 @@ count-row-requires c κs = omega arith
 conflicts : (c : tie.After-count-row Inv-loop μ-loop) →
     let at = c .before .before .loop in
     let a = c .before .before .before .before .args in
-    (at .same + c .count-row .result .conflicts ≡ sumPairs (conflictIn (a .conflicts .now) (a .masks .now)) (at .j + 1))
-    × (at .same + c .count-row .result .conflicts ≤ 130_816)
+    (at .conflict-count + c .count-row .result .conflicts ≡ sumPairs (conflictIn (a .conflicts .now) (a .masks .now)) (at .j + 1))
+    × (at .conflict-count + c .count-row .result .conflicts ≤ 130_816)
 conflicts c =
     let at = c .before .before .loop in
     let a = c .before .before .before .before .args in
@@ -39,18 +39,18 @@ conflicts c =
 stitches : (c : tie.After-count-row Inv-loop μ-loop) →
     let at = c .before .before .loop in
     let a = c .before .before .before .before .args in
-    (at .cut + c .count-row .result .stitches ≡ sumPairs (stitchIn (a .stitches .now) (a .masks .now)) (at .j + 1))
-    × (at .cut + c .count-row .result .stitches ≤ 130_816)
+    (at .stitch-count + c .count-row .result .stitches ≡ sumPairs (stitchIn (a .stitches .now) (a .masks .now)) (at .j + 1))
+    × (at .stitch-count + c .count-row .result .stitches ≤ 130_816)
 stitches c =
     let at = c .before .before .loop in
     let a = c .before .before .before .before .args in
     pairs-more _ _ (stitch-le (a .stitches .now) (a .masks .now)) (omega arith) (at .inv .2) (c .count-row .ensures .stitches)
 
-add-same : tie.Need-add-same Inv-loop μ-loop
-add-same c = omega (arith, conflicts (c .before))
+add-conflict-count : tie.Need-add-conflict-count Inv-loop μ-loop
+add-conflict-count c = omega (arith, conflicts (c .before))
 
-add-cut : tie.Need-add-cut Inv-loop μ-loop
-add-cut c = omega (arith, stitches (c .before .before))
+add-stitch-count : tie.Need-add-stitch-count Inv-loop μ-loop
+add-stitch-count c = omega (arith, stitches (c .before .before))
 
 add-j : tie.Need-add-j Inv-loop μ-loop
 add-j c = omega arith
@@ -61,29 +61,26 @@ loop-less c = omega arith
 loop-again : tie.Need-loop-again Inv-loop μ-loop
 loop-again c = (omega arith, conflicts (c .before .before) .0, stitches (c .before .before) .0)
 
--- the cost is small
-cost : (c : tie.After-loop Inv-loop μ-loop) → c .before .before .before .args .weight * c .before .loop .same + c .before .loop .cut ≤ 130_946_816
-cost c =
+-- the counts are small
+counts : (c : tie.After-loop Inv-loop μ-loop) → (c .before .loop .conflict-count ≤ 130_816) × (c .before .loop .stitch-count ≤ 130_816)
+counts c =
     let at = c .before .loop in
-    let a = c .before .before .before .args in
-    let p : at .same ≤ 130_816 = rw (at .inv .1) (pairs-small _ _ (conflict-le (a .conflicts .now) (a .masks .now)) (omega arith)) in
-    let q : at .cut ≤ 130_816 = rw (at .inv .2) (pairs-small _ _ (stitch-le (a .stitches .now) (a .masks .now)) (omega arith)) in
-    cost-small (omega arith) p q
+    let a = c .before .before .before .args in (
+      rw (at .inv .1) (pairs-small _ _ (conflict-le (a .conflicts .now) (a .masks .now)) (omega arith)),
+      rw (at .inv .2) (pairs-small _ _ (stitch-le (a .stitches .now) (a .masks .now)) (omega arith)),
+    )
 
-mul-t11 : tie.Need-mul-t11 Inv-loop μ-loop
-mul-t11 c = omega (arith, cost c)
-
-add-t12 : tie.Need-add-t12 Inv-loop μ-loop
-add-t12 c = omega (arith, cost c)
+cost-of-requires : tie.Need-cost-of-requires Inv-loop μ-loop
+cost-of-requires c κs = omega (arith, counts c)
 
 returns : tie.Need-returns Inv-loop μ-loop
 unfolding scoreOf conflictsOf stitchesOf
 returns c =
-    let at = c .before .loop in
-    let a = c .before .before .before .args in
+    let at = c .before .before .loop in
+    let a = c .before .before .before .before .args in
     let e : at .j ≡ a .n = omega arith in
     let scored : ℕ → ℕ → Score = λ x y. record { conflicts = x; stitches = y; cost = a .weight * x + y } in
-    ap₂ scored (at .inv .1 ∙ rw e) (at .inv .2 ∙ rw e)
+    rw (c .cost-of .ensures) (ap₂ scored (at .inv .1 ∙ rw e) (at .inv .2 ∙ rw e))
 
 pub score-words-spec : {M : Type 1} → statement M
 score-words-spec =
@@ -93,11 +90,10 @@ score-words-spec =
     μ-loop
     loop-holds
     count-row-requires
-    add-same
-    add-cut
+    add-conflict-count
+    add-stitch-count
     add-j
     loop-less
     loop-again
-    mul-t11
-    add-t12
+    cost-of-requires
     returns)

@@ -3,7 +3,7 @@ use mathlib.Core.Path.{_≡_, refl, sym}
 use Prim.Native.Nat.{_-_, _≤_}
 use native.Mathlib.Omega.{arith}
 use borrow.Author.Tests.{lt-ltb, le-ltb}
-use lib.ListN.{length}
+use lib.ListN.{length, getD}
 use Rattle.rules.specs.Questions.{done, askEach}
 use Rattle.rules.proofs.Outcomes.{each-next, each-refused}
 use Rattle.scoring.specs.Counts.{maskQuestion}
@@ -32,7 +32,8 @@ cast-t10 c = omega arith
 returns : tie.Need-returns Inv-loop μ-loop
 returns c =
     let at = c .before .before .before .loop in
-    sym (each-refused _ _ {i = at .i} (omega arith) (at .inv .1) (rw (le-ltb _ _ (c .if1 .taken))))
+    let a = c .before .before .before .before .args in
+    sym (each-refused _ _ {i = at .i} (omega arith) (at .inv .1) (rw (le-ltb (getD (a .masks .now) (at .i) 0) (a .limit) (omega arith))))
 
 add-i : tie.Need-add-i Inv-loop μ-loop
 add-i c = omega arith
@@ -41,7 +42,10 @@ loop-less : tie.Need-loop-less Inv-loop μ-loop
 loop-less c = omega arith
 
 loop-again : tie.Need-loop-again Inv-loop μ-loop
-loop-again c = (omega arith, each-next _ _ (c .before .before .before .loop .inv .1) (rw (lt-ltb _ _ (c .if1 .left))))
+loop-again c =
+    let at = c .before .before .before .loop in
+    let a = c .before .before .before .before .args in
+    (omega arith, each-next _ _ (at .inv .1) (rw (lt-ltb (getD (a .masks .now) (at .i) 0) (a .limit) (omega arith))))
 
 returns-2 : tie.Need-returns-2 Inv-loop μ-loop
 returns-2 c =

@@ -6,8 +6,8 @@ use Rattle.scoring.proofs.ScoreLaws.{words-score}
 use Rattle.scoring.proofs.flat.score.Statement.{statement}
 use Rattle.scoring.proofs.flat.score.Tie as tie
 
-adjacency-requires : tie.Need-adjacency-requires
-adjacency-requires c κs = c .before .before .before .pre .0
+adjacency-words-requires : tie.Need-adjacency-words-requires
+adjacency-words-requires c κs = c .before .before .before .pre .0
 
 score-words-requires : tie.Need-score-words-requires
 score-words-requires c κs =
@@ -15,7 +15,7 @@ score-words-requires c κs =
     (settings-facts _ (f .settings) .weight .high, (f .count, c .before .before .before .before .before .before .pre .1))
 
 returns : tie.Need-returns
-returns c = c .score-words .ensures ∙ words-score _ _ _ _ _ _ _ (c .before .before .before .adjacency .ensures) (valid-flat _ _ _ (c .before .before .before .before .before .before .before .pre .0) .count)
+returns c = c .score-words .ensures ∙ words-score _ _ _ _ _ _ _ (c .before .before .before .adjacency-words .ensures) (valid-flat _ _ _ (c .before .before .before .before .before .before .before .pre .0) .count)
 
 pub score-spec : {M : Type 1} → statement M
-score-spec = tie.close (tie.spec adjacency-requires score-words-requires returns)
+score-spec = tie.close (tie.spec adjacency-words-requires score-words-requires returns)

@@ -3,6 +3,7 @@ use borrow.Author.Needs.{needs}
 use mathlib.Core.Path.{sym, ap, _∙_}
 use native.Mathlib.Omega.{arith}
 use borrow.Author.Tests.{eq-eqb, ne-eqb}
+use lib.ListN.{length}
 use Rattle.rules.specs.Calls.{scoreMasks}
 use Rattle.rules.specs.Questions.{Valid}
 use Rattle.layout.specs.Flat.{piecesOf}
@@ -30,7 +31,9 @@ valid : (c : tie.After-enum-told) → let a = c .before .before .before .before 
 valid c = sym (c .before .before .judge .ensures) ∙ ap judgement (c .enum-told .given .1)
 
 returns-2 : tie.Need-returns-2
-returns-2 c = sym (masks-of _ _ _ _ (valid (c .before)) ∙ rw (ne-eqb _ _ (c .if1 .taken)))
+returns-2 c =
+    let a = c .before .before .before .before .before .args in
+    sym (masks-of _ _ _ _ (valid (c .before)) ∙ rw (ne-eqb (length (a .masks .now)) (a .n) (λ e. omega arith)))
 
 judge-masks-requires : tie.Need-judge-masks-requires
 judge-masks-requires c κs =

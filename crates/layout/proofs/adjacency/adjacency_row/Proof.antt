@@ -5,9 +5,9 @@ use Prim.Native.Nat.{_≤_, _-_}
 use native.Mathlib.Omega.{arith}
 use Rattle.layout.specs.Adjacency.{conflictOf, stitchOf, RowTo}
 use Rattle.rules.proofs.Edges.{conflict-sym, stitch-sym}
-use Rattle.layout.proofs.MatrixLaws.{row-none, row-more}
-use Rattle.layout.proofs.matrices.adjacency_row.Statement.{statement}
-use Rattle.layout.proofs.matrices.adjacency_row.Tie as tie
+use Rattle.layout.proofs.AdjacencyLaws.{row-none, row-more}
+use Rattle.layout.proofs.adjacency.adjacency_row.Statement.{statement}
+use Rattle.layout.proofs.adjacency.adjacency_row.Tie as tie
 
 abbrev Inv-loop : tie.InvT-loop
 Inv-loop settings flat j conflicts₀ stitches₀ p i₀ conflicts stitches i =

@@ -1,4 +1,4 @@
--- `adjacency`. The invariant: the rows before j are in the words. Assumes nothing.
+-- `adjacency_words`. The invariant: the rows before j are in the words. Assumes nothing.
 use borrow.Author.Needs.{needs}
 use mathlib.Core.Path.{_≡_, sym, ap₂}
 use Prim.Native.Nat.{ℕ, _≤_, _<_, _-_}
@@ -9,9 +9,9 @@ use Rattle.layout.specs.Flat.{pieceOf, piecesOf}
 use Rattle.layout.specs.Adjacency.{conflictOf, stitchOf}
 use Rattle.layout.proofs.PieceLaws.{piece-of, valid-flat}
 use Rattle.rules.proofs.Edges.{no-self-conflict, no-self-stitch}
-use Rattle.layout.proofs.MatrixLaws.{Rows, rows-none, rows-more, rows-hold}
-use Rattle.layout.proofs.matrices.adjacency.Statement.{statement}
-use Rattle.layout.proofs.matrices.adjacency.Tie as tie
+use Rattle.layout.proofs.AdjacencyLaws.{Rows, rows-none, rows-more, rows-hold}
+use Rattle.layout.proofs.adjacency.adjacency_words.Statement.{statement}
+use Rattle.layout.proofs.adjacency.adjacency_words.Tie as tie
 
 abbrev Inv-loop : tie.InvT-loop
 Inv-loop settings flat n conflicts₀ stitches₀ j₀ conflicts stitches j =
@@ -67,8 +67,8 @@ returns c =
           (rw e at (at .inv .2));
     }
 
-pub adjacency-spec : {M : Type 1} → statement M
-adjacency-spec =
+pub adjacency-words-spec : {M : Type 1} → statement M
+adjacency-words-spec =
     tie.close
     (tie.spec
     Inv-loop

@@ -11,7 +11,7 @@ use native.Mathlib.Omega.{arith}
 use lib.Dec.{eqb, ltb}
 use lib.ListN.{replicate}
 use borrow.Author.Tests.{eq-eqb, ne-eqb, eqb-true, lt-ltb, le-ltb}
-use Rattle.bitset.specs.Bits.{joined}
+use Rattle.bitset.specs.Bits.{hasEdge}
 use Rattle.bitset.proofs.Sets.{member-none}
 use Rattle.rules.specs.Basics.{given}
 use Rattle.layout.specs.Adjacency.{isPair, inRow, RowTo, Holds}
@@ -56,25 +56,25 @@ module _ (edge : ℕ → ℕ → Bool) (symmetric : (a b : ℕ) → edge a b ≡
       (or-either (eqb a i && eqb b j) (eqb a j && eqb b i) e)
 
   pub row-none : (j : ℕ) (words : List ℕ) → RowTo edge 0 j words words
-  row-none j words = record { bits = λ a b h. rw (le-ltb (min a b) 0 (omega arith), and-false (edge a b)) (sym (or-false (joined words a b))) }
+  row-none j words = record { bits = λ a b h. rw (le-ltb (min a b) 0 (omega arith), and-false (edge a b)) (sym (or-false (hasEdge words a b))) }
 
   -- i and j are joined where they were found to have an edge
   pub row-more : (i j : ℕ) (found : Bool) {before words after : List ℕ} → i < j → found ≡ edge i j → RowTo edge i j before words
-      → ((a b : ℕ) → b < 512 → joined after a b ≡ (joined words a b || (found && isPair i j a b)))
+      → ((a b : ℕ) → b < 512 → hasEdge after a b ≡ (hasEdge words a b || (found && isPair i j a b)))
       → RowTo edge (i + 1) j before after
   row-more i j found {before} {words} {after} l e row more = record {
     bits = λ a b h.
         more a b h
         ∙ rw (e, row .bits a b h, pair-edge i j a b, row-next i j a b l)
-        (or-assoc (joined before a b) (edge a b && inRow i j a b) (edge a b && isPair i j a b)
-        ∙ ap (λ (x : Bool). joined before a b || x) (sym (and-or-distrib-left (edge a b) (inRow i j a b) (isPair i j a b))));
+        (or-assoc (hasEdge before a b) (edge a b && inRow i j a b) (edge a b && isPair i j a b)
+        ∙ ap (λ (x : Bool). hasEdge before a b || x) (sym (and-or-distrib-left (edge a b) (inRow i j a b) (isPair i j a b))));
   }
 
 -- ---- rows
 
 -- the words after the rows below n
 pub record Rows (edge : ℕ → ℕ → Bool) (n : ℕ) (words : List ℕ) : Type 0 where
-  pub bits : (a b : ℕ) → b < 512 → joined words a b ≡ (edge a b && (ltb (min a b) (max a b) && ltb (max a b) n))
+  pub bits : (a b : ℕ) → b < 512 → hasEdge words a b ≡ (edge a b && (ltb (min a b) (max a b) && ltb (max a b) n))
 
 pub rows-none : (edge : ℕ → ℕ → Bool) {words : List ℕ} → words ≡ replicate 4096 0 → Rows edge 0 words
 rows-none edge e = record { bits = λ a b h. rw (e, le-ltb (max a b) 0 (omega arith), and-false (ltb (min a b) (max a b)), and-false (edge a b)) (member-none 4096 _) }
@@ -118,11 +118,11 @@ rows-hold edge joins n {words} agree loops rows = record { bits = λ a b h. rows
 -- ---- what the words say
 
 module _ (edges : ℕ → ℕ → ℕ) (n : ℕ) (words : List ℕ) (holds : Holds edges n words) where
-  pub words-symmetric : ((a b : ℕ) → edges a b ≡ edges b a) → (a b : ℕ) → a < 512 → b < 512 → joined words a b ≡ joined words b a
+  pub words-symmetric : ((a b : ℕ) → edges a b ≡ edges b a) → (a b : ℕ) → a < 512 → b < 512 → hasEdge words a b ≡ hasEdge words b a
   words-symmetric symmetric a b h k =
       holds .bits a b k ∙ rw (symmetric a b, and-comm (ltb a n) (ltb b n)) (sym (holds .bits b a h))
 
-  pub words-diagonal : ((a : ℕ) → a < n → edges a a ≡ 0) → (a : ℕ) → a < 512 → joined words a a ≡ false
+  pub words-diagonal : ((a : ℕ) → a < n → edges a a ≡ 0) → (a : ℕ) → a < 512 → hasEdge words a a ≡ false
   words-diagonal loops a h = holds .bits a a h ∙ go (decLt a n)
     where
       go : Dec (a < n) → (ltb a n && ltb a n && ltb 0 (edges a a)) ≡ false
@@ -130,7 +130,7 @@ module _ (edges : ℕ → ℕ → ℕ) (n : ℕ) (words : List ℕ) (holds : Hol
       go (no l) = rw (le-ltb a n (omega arith))
 
   -- nothing at or past n
-  pub words-past : (a b : ℕ) → b < 512 → n ≤ max a b → joined words a b ≡ false
+  pub words-past : (a b : ℕ) → b < 512 → n ≤ max a b → hasEdge words a b ≡ false
   words-past a b h l = holds .bits a b h ∙ go (decLt a n)
     where
       go : Dec (a < n) → (ltb a n && ltb b n && ltb 0 (edges a b)) ≡ false

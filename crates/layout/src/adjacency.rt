@@ -1,10 +1,10 @@
-// The adjacency words of a judged layer: a bit for each pair of pieces, in a matrix for each kind of edge. Each unordered
+// The adjacency words of a judged layer: a bit for each pair of pieces, in words for each kind of edge. Each unordered
 // pair is tested once, from its greater number, and both of its bits are set.
 ghost use mathlib.Core.Bool.{true, _&&_, _||_};
 ghost use mathlib.Core.Path.{_≡_};
 ghost use Prim.Native.Nat.{ℕ, _<_, _≤_};
 ghost use lib.ListN.{replicate};
-ghost use Rattle.bitset.specs.Bits.{joined};
+ghost use Rattle.bitset.specs.Bits.{hasEdge};
 ghost use Rattle.rules.specs.Settings.{settingsInRange, pieceInRange};
 ghost use Rattle.rules.specs.Questions.{Valid};
 ghost use Rattle.layout.specs.Flat.{pieceOf, piecesOf};
@@ -25,7 +25,7 @@ fn clear(words: &mut [u64; 4096])
 fn join_where(words: &mut [u64; 4096], i: usize, j: usize, edge: bool)
     requires { ⌜ i < 512 ⌝ }
     requires { ⌜ j < 512 ⌝ }
-    ensures { λ _. ⌜ ((a b : ℕ) → b < 512 → joined (now (words .exit)) a b ≡ (joined (now (words .entry)) a b || (edge && isPair i j a b))) ⌝ }
+    ensures { λ _. ⌜ ((a b : ℕ) → b < 512 → hasEdge (now (words .exit)) a b ≡ (hasEdge (now (words .entry)) a b || (edge && isPair i j a b))) ⌝ }
 {
     if edge {
         bitset::join(words, i, j);
@@ -56,8 +56,8 @@ fn adjacency_row(
     }
 }
 
-// Fills both matrices, whatever was in them.
-pub fn adjacency(
+// Fills the words of both kinds, whatever was in them.
+pub fn adjacency_words(
     settings: Settings,
     flat: &[u32; 2560],
     n: usize,
