@@ -8,7 +8,8 @@ use lib.Dec.{eqb, ltb}
 use Rattle.bitset.specs.Bits.{hasEdge}
 use Rattle.rules.specs.declared.layer.Settings.{Settings}
 use Rattle.rules.specs.declared.layer.Piece.{Piece}
-use Rattle.rules.specs.Edges.{conflictEdge, stitchEdge, graphOf}
+use Rattle.rules.specs.Basics.{given}
+use Rattle.rules.specs.Edges.{conflictEdge, stitchEdge, Graph, graphOf}
 use Rattle.layout.specs.Flat.{pieceOf}
 
 -- whether pieces a and b are joined by a conflict edge, and by a stitch edge
@@ -38,3 +39,10 @@ pub record Holds (edges : ℕ → ℕ → ℕ) (n : ℕ) (words : List ℕ) : Ty
 pub record Adjacency (s : Settings) (ps : List Piece) (n : ℕ) (conflictWords stitchWords : List ℕ) : Type 0 where
   pub conflicts : Holds (graphOf s ps .conflicts) n conflictWords
   pub stitches : Holds (graphOf s ps .stitches) n stitchWords
+
+-- the graph of adjacency words: two vertices have an edge of a kind where the words of that kind join them
+abbrev pub wordGraph : List ℕ → List ℕ → Graph
+wordGraph conflictWords stitchWords = record {
+  conflicts = λ u v. given (hasEdge conflictWords u v) 1;
+  stitches = λ u v. given (hasEdge stitchWords u v) 1;
+}

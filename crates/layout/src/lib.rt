@@ -10,8 +10,6 @@ mod judging;
 pub use adjacency::adjacency_words;
 pub use edges::edge;
 pub use judging::Judgement;
-pub use judging::has_area;
 pub use judging::judge;
 pub use judging::judge_piece;
-pub use judging::piece_in_range;
 pub use judging::pieces_overlap;

@@ -83,8 +83,7 @@ fn write_score(score: Score) {
     end_line();
 }
 
-fn show_edge(label: &[u8], a: Piece, b: Piece) {
-    write(label);
+fn show_edge(a: Piece, b: Piece) {
     let answer = layout::edge(settings(2), a, b);
     match answer {
         EdgeAnswer::Found(edge) => write_edge(edge),
@@ -155,79 +154,188 @@ fn show_adjacency(flat: &[u32; 2560], n: usize) {
 
 // ---- layers
 
-fn edges() {
-    let a = piece(0, 100, 100, 200, 120);
-    show_edge(b"gaps 79 and 0: ", a, piece(1, 279, 100, 300, 120));
-    show_edge(b"gaps 80 and 0: ", a, piece(1, 280, 100, 300, 120));
-    show_edge(b"gaps 48 and 63: ", a, piece(1, 248, 183, 300, 220));
-    show_edge(b"gaps 48 and 64: ", a, piece(1, 248, 184, 300, 220));
-    show_edge(b"gap 0 and 79 below: ", a, piece(1, 100, 0, 200, 21));
-    show_edge(b"contact 10: ", a, piece(0, 200, 110, 300, 140));
-    show_edge(b"contact 9: ", a, piece(0, 200, 111, 300, 140));
-    show_edge(b"contact 10 above: ", a, piece(0, 190, 120, 300, 140));
-    show_edge(
-        b"overlap, shapes 0 and 1: ",
-        a,
-        piece(1, 150, 100, 250, 120),
-    );
-    show_edge(
-        b"far apart: ",
-        a,
-        piece(1, 999000, 999000, 1000000, 1000000),
-    );
+// Pieces, five numbers each, whose edge with the piece 0,100,100,200,120 is shown: gaps of 79, of 80, of 48 and 63, of 48 and 64,
+// and of 79 below; contacts of 10, of 9, and of 10 above; an overlap of two shapes; far apart. Then refusals: an overlap of one
+// shape, a coordinate out of range, no width, and the greatest numbers.
+const OTHERS: [u32; 70] = [
+    1,
+    279,
+    100,
+    300,
+    120,
+    1,
+    280,
+    100,
+    300,
+    120,
+    1,
+    248,
+    183,
+    300,
+    220,
+    1,
+    248,
+    184,
+    300,
+    220,
+    1,
+    100,
+    0,
+    200,
+    21,
+    0,
+    200,
+    110,
+    300,
+    140,
+    0,
+    200,
+    111,
+    300,
+    140,
+    0,
+    190,
+    120,
+    300,
+    140,
+    1,
+    150,
+    100,
+    250,
+    120,
+    1,
+    999000,
+    999000,
+    1000000,
+    1000000,
+    0,
+    150,
+    100,
+    250,
+    120,
+    0,
+    0,
+    0,
+    1000001,
+    1,
+    0,
+    300,
+    0,
+    300,
+    1,
+    4294967295,
+    0,
+    0,
+    4294967295,
+    4294967295,
+];
+
+// A number and what comes after it.
+fn write_part(n: u32, after: &[u8]) {
+    write_number(n);
+    write(after);
 }
 
-fn edge_refusals() {
-    let a = piece(0, 100, 100, 200, 120);
-    show_edge(b"overlap, shape 0: ", a, piece(0, 150, 100, 250, 120));
-    show_edge(b"first out of range: ", piece(512, 0, 0, 1, 1), a);
-    show_edge(b"second out of range: ", a, piece(0, 0, 0, 1000001, 1));
-    show_edge(b"second without width: ", a, piece(0, 300, 0, 300, 1));
-    show_edge(
-        b"greatest numbers: ",
-        a,
-        piece(4294967295, 0, 0, 4294967295, 4294967295),
-    );
+fn other(i: usize) -> Piece
+    requires { ⌜ i < 14 ⌝ }
+{
+    let k = 5 * i;
+    piece(
+        OTHERS[k],
+        OTHERS[k + 1],
+        OTHERS[k + 2],
+        OTHERS[k + 3],
+        OTHERS[k + 4],
+    )
+}
+
+fn write_corner(x: u32, y: u32) {
+    write_part(x, b",");
+    write_number(y);
+}
+
+fn write_piece(p: Piece) {
+    write_part(p.shape, b",");
+    write_corner(p.x1, p.y1);
+    write(b",");
+    write_corner(p.x2, p.y2);
+    write(b": ");
+}
+
+fn show_other(i: usize)
+    requires { ⌜ i < 14 ⌝ }
+{
+    let b = other(i);
+    write_piece(b);
+    show_edge(piece(0, 100, 100, 200, 120), b);
+}
+
+fn edges() {
+    let mut i = 0;
+    while i < 14 {
+        show_other(i);
+        i += 1;
+    }
+    write(b"first out of range: ");
+    show_edge(piece(512, 0, 0, 1, 1), piece(0, 100, 100, 200, 120));
 }
 
 // The layer of RULES 9.
-fn squares() {
+fn row() -> [u32; 2560] {
     let mut flat = [0u32; 2560];
     put(&mut flat, 0, piece(0, 0, 0, 20, 20));
     put(&mut flat, 1, piece(1, 40, 0, 60, 20));
     put(&mut flat, 2, piece(2, 80, 0, 100, 20));
-    show_adjacency(&flat, 3);
-    let masks = [0u8, 1, 0];
-    show_score(b"masks 0 1 0: ", &flat, 3, &masks);
-    let equal = [1u8, 1, 1];
-    show_score(b"masks 1 1 1: ", &flat, 3, &equal);
-    let large = [0u8, 2, 3];
-    show_score(b"mask 2 of 2: ", &flat, 3, &large);
-    show_score(b"three masks for two pieces: ", &flat, 2, &masks);
-    show_score(b"513 pieces: ", &flat, 513, &masks);
-    show_score(b"a piece of zeros: ", &flat, 4, &masks);
+    flat
 }
 
-// The layer of RULES 13 whose two parts of one shape are stitched.
-fn stitched() {
+fn row_scores(flat: &[u32; 2560]) {
+    let masks = [0u8, 1, 0];
+    show_score(b"masks 0 1 0: ", flat, 3, &masks);
+    let equal = [1u8, 1, 1];
+    show_score(b"masks 1 1 1: ", flat, 3, &equal);
+    let large = [0u8, 2, 3];
+    show_score(b"mask 2 of 2: ", flat, 3, &large);
+}
+
+fn row_refusals(flat: &[u32; 2560]) {
+    let masks = [0u8, 1, 0];
+    show_score(b"three masks for two pieces: ", flat, 2, &masks);
+    show_score(b"513 pieces: ", flat, 513, &masks);
+    show_score(b"a piece of zeros: ", flat, 4, &masks);
+}
+
+// The layer of RULES 13 whose two parts of one shape are stitched, with a last piece of its own.
+fn halves(last: Piece) -> [u32; 2560] {
     let mut flat = [0u32; 2560];
     put(&mut flat, 0, piece(0, 100, 0, 200, 20));
     put(&mut flat, 1, piece(0, 200, 0, 300, 20));
     put(&mut flat, 2, piece(1, 100, 90, 161, 110));
-    put(&mut flat, 3, piece(2, 239, 90, 300, 110));
-    show_adjacency(&flat, 4);
+    put(&mut flat, 3, last);
+    flat
+}
+
+fn halves_scores(flat: &[u32; 2560]) {
     let masks = [0u8, 1, 1, 0];
-    show_score(b"masks 0 1 1 0: ", &flat, 4, &masks);
+    show_score(b"masks 0 1 1 0: ", flat, 4, &masks);
     let plain = [0u8, 0, 1, 1];
-    show_score(b"masks 0 0 1 1: ", &flat, 4, &plain);
-    put(&mut flat, 3, piece(1, 160, 90, 300, 110));
-    show_adjacency(&flat, 4);
-    show_score(b"overlap of one shape: ", &flat, 4, &plain);
+    show_score(b"masks 0 0 1 1: ", flat, 4, &plain);
+}
+
+fn overlapping(flat: &[u32; 2560]) {
+    show_adjacency(flat, 4);
+    let plain = [0u8, 0, 1, 1];
+    show_score(b"overlap of one shape: ", flat, 4, &plain);
 }
 
 fn main() {
     edges();
-    edge_refusals();
-    squares();
-    stitched();
+    let squares = row();
+    show_adjacency(&squares, 3);
+    row_scores(&squares);
+    row_refusals(&squares);
+    let stitched = halves(piece(2, 239, 90, 300, 110));
+    show_adjacency(&stitched, 4);
+    halves_scores(&stitched);
+    overlapping(&halves(piece(1, 160, 90, 300, 110)));
 }

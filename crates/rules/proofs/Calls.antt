@@ -1,63 +1,96 @@
--- What each public call can refuse, by number and place: the questions that it asks and no others. Assumes nothing.
+-- What each public call can refuse, by number and place: the questions that it asks and no others; and the loader's number, which gives number and place back.
+-- Assumes nothing.
+use mathlib.Core.Bool.{true}
 use mathlib.Core.List.{List, [], _∷_}
-use Prim.Native.Nat.{ℕ, _<_}
+use mathlib.Core.Path.{_≡_, refl, ap, subst}
+use Prim.Native.Nat.{ℕ, _/_, _%_, _≤_}
+use native.Mathlib.Omega.{arith}
 use lib.Dec.{eqb, leb, ltb}
 use lib.ListN.{length, getD}
+use borrow.Author.Tests.{leb-true}
 use Rattle.rules.specs.declared.layer.Settings.{Settings}
 use Rattle.rules.specs.declared.layer.Piece.{Piece}
 use Rattle.rules.specs.declared.refusal.Place.{Place}
 use Rattle.rules.specs.Settings.{settingsInRange}
+use Rattle.rules.specs.Edges.{edgeOf}
+use Rattle.rules.specs.Decomposition.{Run, run}
+use Rattle.rules.specs.LayerText.{layerText}
+use Rattle.rules.specs.ResultText.{resultText}
+use Rattle.rules.specs.Questions.{done, refused, ask, judgeLayer, Valid}
 use Rattle.rules.specs.Calls.{newSettings, edgeBetween, scoreMasks, decomposeLayer, writeLayer, decomposeText}
-use Rattle.rules.proofs.Outcomes.{Ends, accepts, ends-then, ends-ask, ends-each, ends-refused}
-use Rattle.rules.proofs.Validity.{OfRecords, judged, settings-or-count}
-use Rattle.rules.proofs.Reading.{OfText, read-ends}
+use Rattle.rules.specs.Loader.{loaderNumber, placeFrom}
+use Rattle.rules.specs.Refusals.{Ends, accepts, OfSettings, setting, OfRecords, OfMaskList, records, mask-count, OfMasks, mask-list, mask-range, OfText, size, form, range, area, overlap, OfBuffer, buffer, given}
+use Rattle.rules.specs.Demands.{layerScore}
+use Rattle.rules.proofs.Outcomes.{ends-then, ends-ask, ends-each, ends-refused, then-with}
+use Rattle.rules.proofs.Validity.{sound-valid, judged}
+use Rattle.rules.proofs.Reading.{read-ends}
 
--- the refusals of a call on n records and masks: those of the records, then 7, then 8
-pub data OfMasks (n : ℕ) : ℕ → Place → Type 0 where
-  records : {number : ℕ} {place : Place} → OfRecords n number place → OfMasks n number place
-  mask-count : OfMasks n 7 Place.Nothing
-  mask-range : {i : ℕ} → i < n → OfMasks n 8 (Place.Piece i)
-
--- the refusals of a call with an output buffer: 1, then those of what it is given
-pub data OfBuffer (R : ℕ → Place → Type 0) : ℕ → Place → Type 0 where
-  buffer : OfBuffer R 1 Place.Nothing
-  given : {number : ℕ} {place : Place} → R number place → OfBuffer R number place
-
-pub settings-end : (masks spacing margin weight budget : ℕ) → Ends (λ _. Unit {0}) (OfRecords 0) (newSettings masks spacing margin weight budget)
+pub settings-end : (masks spacing margin weight budget : ℕ) → Ends (λ s. settingsInRange s ≡ true) OfSettings (newSettings masks spacing margin weight budget)
 unfolding newSettings
 settings-end masks spacing margin weight budget =
     let s : Settings = record { masks = masks; spacing = spacing; margin = margin; weight = weight; budget = budget } in
-    ends-then (ends-ask (settingsInRange s) 4 Place.Nothing settings-or-count) λ _ _. accepts tt
+    ends-then (ends-ask (settingsInRange s) 4 Place.Nothing setting) λ _ e. accepts e
 
-pub edge-ends : (s : Settings) (a b : Piece) → Ends (λ _. Unit {0}) (OfRecords 2) (edgeBetween s a b)
+pub edge-ends : (s : Settings) (a b : Piece) → Ends (λ e. e ≡ edgeOf s a b) (OfRecords 2) (edgeBetween s a b)
 unfolding edgeBetween
-edge-ends s a b = ends-then (judged s (a ∷ b ∷ [])) λ _ _. accepts tt
+edge-ends s a b = ends-then (judged s (a ∷ b ∷ [])) λ _ _. accepts refl
 
-pub score-ends : (s : Settings) (ps : List Piece) (masks : List ℕ) → Ends (λ _. Unit {0}) (OfMasks (length ps)) (scoreMasks s ps masks)
+pub score-ends : (s : Settings) (ps : List Piece) (masks : List ℕ) → Ends (λ r. r ≡ layerScore s ps masks) (OfMasks (length ps)) (scoreMasks s ps masks)
 unfolding scoreMasks
 score-ends s ps masks =
-    ends-then (ends-refused (λ _ _ r. records r) (judged s ps)) λ _ _.
-    ends-then (ends-ask (eqb (length masks) (length ps)) 7 _ mask-count) λ _ _.
+    ends-then (ends-refused (λ _ _ r. mask-list (records r)) (judged s ps)) λ _ _.
+    ends-then (ends-ask (eqb (length masks) (length ps)) 7 _ (mask-list mask-count)) λ _ _.
     ends-then (ends-each _ (length ps) (λ i h. ends-ask (ltb (getD masks i 0) (s .masks)) 8 _ (mask-range h))) λ _ _.
-    accepts tt
+    accepts refl
 
-pub decompose-ends : (s : Settings) (ps : List Piece) (masks : List ℕ) → Ends (λ _. Unit {0}) (OfMasks (length ps)) (decomposeLayer s ps masks)
+-- ---- Calls whose value is made of a valid layer
+
+pub decompose-ends : (P : Settings → List Piece → Run → Type 0) → ((s : Settings) (ps : List Piece) → Valid s ps → P s ps (run s ps))
+    → (s : Settings) (ps : List Piece) (masks : List ℕ) → Ends (P s ps) (OfMaskList (length ps)) (decomposeLayer s ps masks)
 unfolding decomposeLayer
-decompose-ends s ps masks =
-    ends-then (ends-refused (λ _ _ r. records r) (judged s ps)) λ _ _.
+decompose-ends P holds s ps masks =
+    ends-then (ends-refused (λ _ _ r. records r) (judged s ps)) λ _ f.
     ends-then (ends-ask (eqb (length masks) (length ps)) 7 _ mask-count) λ _ _.
-    accepts tt
+    accepts (holds s ps (sound-valid s ps f))
 
-pub write-ends : (s : Settings) (ps : List Piece) (out : List ℕ) → Ends (λ _. Unit {0}) (OfBuffer (OfRecords (length ps))) (writeLayer s ps out)
+-- the buffer has 32,768 bytes where a layer is written, and 4,096 where a result is
+pub write-ends : ((s : Settings) (ps : List Piece) → Valid s ps → length (layerText s ps) ≤ 32_768)
+    → (s : Settings) (ps : List Piece) (out : List ℕ) → Ends (λ text. length text ≤ length out) (OfBuffer (OfRecords (length ps))) (writeLayer s ps out)
 unfolding writeLayer
-write-ends s ps out =
-    ends-then (ends-ask (leb 32_768 (length out)) 1 _ buffer) λ _ _.
-    ends-then (ends-refused (λ _ _ r. given r) (judged s ps)) λ _ _.
-    accepts tt
+write-ends fits s ps out =
+    ends-then (ends-ask (leb 32_768 (length out)) 1 _ buffer) λ _ room.
+    ends-then (ends-refused (λ _ _ r. given r) (judged s ps)) λ _ f.
+    accepts (omega (arith, leb-true 32_768 (length out) room, fits s ps (sound-valid s ps f)))
 
-pub load-ends : (text out : List ℕ) → Ends (λ _. Unit {0}) (OfBuffer OfText) (decomposeText text out)
+pub load-ends : ((s : Settings) (ps : List Piece) → Valid s ps → length (resultText (run s ps)) ≤ 4_096)
+    → (text out : List ℕ) → Ends (λ result. length result ≤ length out) (OfBuffer (OfText text)) (decomposeText text out)
 unfolding decomposeText
-load-ends text out =
-    ends-then (ends-ask (leb 4_096 (length out)) 1 _ buffer) λ _ _.
-    ends-then (ends-refused (λ _ _ r. given r) (read-ends text)) λ _ _.
-    accepts tt
+load-ends fits text out =
+    ends-then (ends-ask (leb 4_096 (length out)) 1 _ buffer) λ _ room.
+    ends-then (ends-refused (λ _ _ r. given r) (read-ends text)) λ l f.
+    accepts (omega (arith, leb-true 4_096 (length out) room, fits (l .settings) (l .pieces) (sound-valid (l .settings) (l .pieces) f)))
+
+-- the counts and the cost of a decomposition are those of its masks
+pub decompose-counts : (s : Settings) (ps : List Piece) (lent : List ℕ) (r : Run) → decomposeLayer s ps lent ≡ done r
+    → record { conflicts = r .conflicts; stitches = r .stitches; cost = r .cost } ≡ layerScore s ps (r .masks)
+unfolding decomposeLayer run
+decompose-counts s ps lent r e =
+    then-with (judgeLayer s ps) _ r e λ _ e1 k1.
+    then-with (ask (eqb (length lent) (length ps)) 7 Place.Nothing) _ r k1 λ _ e2 k2.
+    let same : run s ps ≡ r = cc k2 in
+    subst (λ (q : Run). record { conflicts = q .conflicts; stitches = q .stitches; cost = q .cost } ≡ layerScore s ps (q .masks)) same refl
+
+-- ---- The loader's number
+
+-- 10,000 × number + place gives the number and the place back
+pub record GivesBack (number : ℕ) (place : Place) : Type 0 where
+  pub question : loaderNumber (refused number place) / 10_000 ≡ number
+  pub where-at : placeFrom number (loaderNumber (refused number place) % 10_000) ≡ place
+
+pub loader-gives-back : {text : List ℕ} {number : ℕ} {place : Place} → OfBuffer (OfText text) number place → GivesBack number place
+loader-gives-back buffer = record { question = refl; where-at = refl }
+loader-gives-back (given size) = record { question = refl; where-at = refl }
+loader-gives-back (given (form l)) = record { question = omega (arith, l .most); where-at = ap Place.Line (omega (arith, l .most)) }
+loader-gives-back (given (range l)) = record { question = omega (arith, l .most); where-at = ap Place.Line (omega (arith, l .most)) }
+loader-gives-back (given (area l)) = record { question = omega (arith, l .most); where-at = ap Place.Line (omega (arith, l .most)) }
+loader-gives-back (given (overlap o c h)) = record { question = omega (arith, h); where-at = ap Place.Piece (omega (arith, h)) }

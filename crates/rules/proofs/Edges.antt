@@ -1,19 +1,25 @@
 -- Edges have no direction, since distance and contact are the same both ways. In a valid layer no piece is joined to itself: it has its own shape, and
--- as it has width and height it nowhere meets itself, so its contact with itself is 0, which is below every margin. Assumes nothing.
-use mathlib.Core.Bool.{true, false}
+-- as it has width and height it nowhere meets itself, so its contact with itself is 0, which is below every margin. The edge between two pieces is the
+-- one that their shapes, distance and contact give. Assumes nothing.
+use mathlib.Core.Bool.{Bool, true, false, not, cond}
 use mathlib.Core.List.{List}
-use mathlib.Core.Path.{_≡_, refl}
-use Prim.Native.Nat.{ℕ, _+_, _<_}
+use mathlib.Core.Logic.{_↔_}
+use mathlib.Core.Path.{_≡_, refl, sym, _∙_}
+use Prim.Native.Nat.{ℕ, _+_, _*_, _<_}
 use native.Mathlib.Nat.{max-comm, min-comm}
 use native.Mathlib.Omega.{arith}
+use lib.Dec.{leb, ltb}
 use lib.ListN.{length}
-use borrow.Author.Tests.{eq-eqb, ne-eqb, lt-leb}
+use borrow.Author.Tests.{eqb-true, eqb-false, eq-eqb, ne-eqb, ltb-true, lt-ltb, leb-true, le-leb, lt-leb, not-true}
 use Rattle.rules.specs.declared.layer.Settings.{Settings}
 use Rattle.rules.specs.declared.layer.Piece.{Piece}
+use Rattle.rules.specs.declared.layer.Edge.{Edge}
+use Rattle.rules.specs.Basics.{given}
 use Rattle.rules.specs.Settings.{settingsInRange, hasArea, pieceAt}
-use Rattle.rules.specs.Edges.{overlapX, overlapY, gapX, gapY, squaredGap, conflictEdge, contact, stitchEdge, Graph, graphOf, joined}
+use Rattle.rules.specs.Edges.{overlapX, overlapY, gapX, gapY, sameShape, squaredGap, conflictEdge, contact, stitchEdge, edgeOf, Graph, graphOf, joined}
 use Rattle.rules.specs.Questions.{Valid}
-use Rattle.rules.proofs.Tests.{eqb-sym}
+use Rattle.rules.specs.Demands.{TooClose, Stitchable}
+use Rattle.rules.proofs.Tests.{by-test, clash, eqb-sym, both}
 use Rattle.rules.proofs.Ranges.{settings-facts, area-facts}
 use Rattle.rules.proofs.Validity.{valid-sound}
 
@@ -76,3 +82,65 @@ pub loopless : (s : Settings) (ps : List Piece) → Valid s ps → (v : ℕ) →
 loopless s ps valid v l =
     let f = valid-sound s ps valid in
     rw (no-self-conflict s (pieceAt ps v), no-self-stitch s (pieceAt ps v) (f .settings) (f .areas v l))
+
+-- ---- What joins two pieces
+
+module _ (s : Settings) (p q : Piece) where
+  conflict-test : (conflictEdge s p q ≡ true) ↔ TooClose s p q
+  unfolding conflictEdge
+  conflict-test = (
+    λ e. let b = both (not (sameShape p q)) (ltb (squaredGap p q) (s .spacing * s .spacing)) e in record { shapes = eqb-false (p .shape) (q .shape) (not-true (sameShape p q) (b .0)); near = ltb-true (squaredGap p q) (s .spacing * s .spacing) (b .1) },
+    λ c. rw (ne-eqb (p .shape) (q .shape) (c .shapes), lt-ltb (squaredGap p q) (s .spacing * s .spacing) (c .near)),
+  )
+
+  stitch-test : (stitchEdge s p q ≡ true) ↔ Stitchable s p q
+  unfolding stitchEdge
+  stitch-test = (
+    λ e. let b = both (sameShape p q) (leb (s .margin) (contact p q)) e in record { shape = eqb-true (p .shape) (q .shape) (b .0); touching = leb-true (s .margin) (contact p q) (b .1) },
+    λ c. rw (eq-eqb (p .shape) (q .shape) (c .shape), le-leb (s .margin) (contact p q) (c .touching)),
+  )
+
+  -- the edge found is the one that the tests give
+  edge-by : (x y : Bool) → conflictEdge s p q ≡ x → stitchEdge s p q ≡ y → edgeOf s p q ≡ cond x Edge.Conflict (cond y Edge.Stitch Edge.None)
+  unfolding edgeOf
+  edge-by x y e f = rw (e, f)
+
+  -- a stitch edge joins one shape, a conflict edge two
+  one-kind : conflictEdge s p q ≡ true → stitchEdge s p q ≡ true → ⊥
+  one-kind e f = conflict-test .0 e .shapes (stitch-test .0 f .shape)
+
+  other-edge : {A : Type 0} {e f : Edge} → edgeOf s p q ≡ e → edgeOf s p q ≡ f → (e ≡ f → _≡_ {A = ℕ} 0 1) → A
+  other-edge x y n = let z : _≡_ {A = ℕ} 0 1 = n (sym x ∙ y) in absurd (omega arith)
+
+  pub conflict-exactly : (edgeOf s p q ≡ Edge.Conflict) ↔ TooClose s p q
+  conflict-exactly = (
+    λ e. by-test (conflictEdge s p q) (conflict-test .0) (λ f. by-test (stitchEdge s p q)
+        (λ g. other-edge e (edge-by false true f g) (λ h. cc h))
+        (λ g. other-edge e (edge-by false false f g) (λ h. cc h))),
+    λ c. edge-by true (stitchEdge s p q) (conflict-test .1 c) refl,
+  )
+
+  pub stitch-exactly : (edgeOf s p q ≡ Edge.Stitch) ↔ Stitchable s p q
+  stitch-exactly = (
+    λ e. by-test (conflictEdge s p q) (λ f. other-edge e (edge-by true (stitchEdge s p q) f refl) (λ h. cc h)) (λ f. by-test (stitchEdge s p q)
+        (stitch-test .0)
+        (λ g. other-edge e (edge-by false false f g) (λ h. cc h))),
+    λ c. by-test (conflictEdge s p q) (λ f. absurd (one-kind f (stitch-test .1 c))) (λ f. edge-by false true f (stitch-test .1 c)),
+  )
+
+given-one : (b : Bool) → (given b 1 ≡ 1) ↔ (b ≡ true)
+given-one true = (λ _. refl, λ _. refl)
+given-one false = (λ e. absurd (omega arith), λ e. clash e refl)
+
+module _ (s : Settings) (ps : List Piece) (u v : ℕ) where
+  pub conflicts-exactly : (graphOf s ps .conflicts u v ≡ 1) ↔ TooClose s (pieceAt ps u) (pieceAt ps v)
+  conflicts-exactly =
+      let one = given-one (conflictEdge s (pieceAt ps u) (pieceAt ps v)) in
+      let test = conflict-test s (pieceAt ps u) (pieceAt ps v) in
+      (λ e. test .0 (one .0 e), λ c. one .1 (test .1 c))
+
+  pub stitches-exactly : (graphOf s ps .stitches u v ≡ 1) ↔ Stitchable s (pieceAt ps u) (pieceAt ps v)
+  stitches-exactly =
+      let one = given-one (stitchEdge s (pieceAt ps u) (pieceAt ps v)) in
+      let test = stitch-test s (pieceAt ps u) (pieceAt ps v) in
+      (λ e. test .0 (one .0 e), λ c. one .1 (test .1 c))

@@ -4,6 +4,7 @@ pub mod Examples
 pub mod Tests
 pub mod Lists
 pub mod Sums
+pub mod ScoreBounds
 pub mod Outcomes
 pub mod Validity
 pub mod Reading

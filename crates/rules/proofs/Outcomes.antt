@@ -10,11 +10,7 @@ use native.Mathlib.Numerals.{add-one}
 use native.Mathlib.Omega.{arith}
 use Rattle.rules.specs.declared.refusal.Place.{Place}
 use Rattle.rules.specs.Questions.{Outcome, done, refused, ask, andThen, askEach}
-
--- what the outcome accepts is one of P, and what it refuses is one of R
-pub data Ends {A : Type 0} (P : A → Type 0) (R : ℕ → Place → Type 0) : Outcome A → Type 0 where
-  accepts : {a : A} → P a → Ends P R (done a)
-  refuses : {number : ℕ} {place : Place} → R number place → Ends P R (refused number place)
+use Rattle.rules.specs.Refusals.{Ends, accepts, refuses}
 
 -- what holds below n and at n holds below the next number
 below-suc : {P : ℕ → Type 0} {n : ℕ} → ((i : ℕ) → i < n → P i) → P n → (i : ℕ) → i < suc n → P i

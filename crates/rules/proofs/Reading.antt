@@ -1,98 +1,162 @@
 -- Every layer text is read as a sound layer, which is valid, or refused with a number and a place of the rules. The law goes through the lines in their order.
--- Assumes nothing.
-use mathlib.Core.Bool.{Bool, true}
+-- A line that is read takes one line off the text, so the line that is refused is one that the text has, or the next. Assumes nothing.
+use mathlib.Core.Bool.{Bool, true, false}
 use mathlib.Core.List.{List, [], _∷_}
 use mathlib.Core.Option.{Option, none, some}
 use mathlib.Core.Path.{_≡_, refl, ap}
-use Prim.Native.Nat.{ℕ, zero, suc, _≤_, _<_}
-use Prim.Native.String.{String}
+use Prim.Native.Nat.{ℕ, zero, suc, _+_, _≤_, _<_}
 use native.Mathlib.Omega.{arith}
-use lib.Dec.{leb}
+use lib.Dec.{eqb, leb}
 use lib.ListN.{length, getD}
 use Rattle.rules.specs.declared.layer.Piece.{Piece}
 use Rattle.rules.specs.declared.refusal.Place.{Place}
-use Rattle.rules.specs.Settings.{settingsInRange, masksInRange, spacingInRange, marginInRange, weightInRange, budgetInRange, countInRange, pieceInRange, hasArea, pieceAt}
-use Rattle.rules.specs.LayerText.{FirstLine, ended, unended, firstLine, lineNumbers}
-use Rattle.rules.specs.Questions.{Outcome, done, refused, Valid, Layer, LineRead, readLine, readNumber, pieceFrom, readPieces, isEmpty, readLayer}
-use Rattle.rules.proofs.Outcomes.{Ends, accepts, refuses, ends-then, ends-ask, accepted}
+use Rattle.rules.specs.Basics.{countOf}
+use Rattle.rules.specs.Settings.{settingsInRange, countInRange, pieceInRange, hasArea, pieceAt}
+use Rattle.rules.specs.Lines.{ascii, newline, FirstLine, ended, unended, firstLine, lineNumbers, NumbersRead, lineOf}
+use Rattle.rules.specs.LayerText.{NumberLine, headerLines}
+use Rattle.rules.specs.Questions.{Outcome, done, refused, Valid, Layer, readLine, readNumber, readNumbers, pieceFrom, readPiece, readPieces, isEmpty, HeaderRead, headerFrom, readHeader, layerFrom, readBody, readLayer}
+use Rattle.rules.specs.Refusals.{Ends, accepts, refuses, lineCount, LineOf, OfText, size, form, range, area, overlap}
+use Rattle.rules.proofs.Outcomes.{ends-then, ends-ask, accepted}
+use Rattle.rules.proofs.Ranges.{within-facts}
 use Rattle.rules.proofs.Validity.{Sound, sound-valid, judged-piece, judged-overlaps}
 
--- the refusals of a text: number and place
-pub data OfText : ℕ → Place → Type 0 where
-  size : OfText 2 Place.Nothing
-  form : {at : ℕ} → 1 ≤ at → OfText 3 (Place.Line at)
-  range : {at : ℕ} → 1 ≤ at → OfText 4 (Place.Line at)
-  area : {at : ℕ} → 1 ≤ at → OfText 5 (Place.Line at)
-  overlap : {i : ℕ} → OfText 6 (Place.Piece i)
+-- ---- Lines are counted
 
-line-ends : (key : String) (count at : ℕ) (text : List ℕ) → 1 ≤ at → Ends (λ _. Unit {0}) OfText (readLine key count at text)
-unfolding readLine
-line-ends key count at text h = go (firstLine text)
+-- the first line is one of the text's lines
+first-counted : (text body rest : List ℕ) → firstLine text ≡ ended body rest → lineCount text ≡ suc (lineCount rest)
+unfolding firstLine countOf
+first-counted [] body rest e = let z : _≡_ {A = ℕ} 0 1 = cc e in absurd (omega arith)
+first-counted (b ∷ text) body rest e = go (eqb b newline) refl (firstLine text) refl (first-counted text)
   where
-    in-form : (rest : List ℕ) (o : Option (List ℕ)) → Ends {A = LineRead} (λ _. Unit {0}) OfText
-        (elim o as (λ _. Outcome LineRead) [ none ↦ refused 3 (Place.Line at) | some ns ↦ done (record { numbers = ns; rest = rest }) ])
-    in-form rest none = refuses (form h)
-    in-form rest (some ns) = accepts tt
+    go : (t : Bool) → eqb b newline ≡ t → (o : FirstLine) → firstLine text ≡ o → ((body rest : List ℕ) → firstLine text ≡ ended body rest → lineCount text ≡ suc (lineCount rest))
+        → lineCount (b ∷ text) ≡ suc (lineCount rest)
+    go true et o eo ih =
+        let e′ = rw (et, firstLine) at e in
+        let er : text ≡ rest = cc e′ in
+        rw (et, er) (omega arith)
+    go false et (ended body′ rest′) eo ih =
+        let e′ = rw (et, firstLine, eo) at e in
+        let er : rest′ ≡ rest = cc e′ in
+        rw (et, ← er) (omega (arith, ih body′ rest′ eo))
+    go false et unended eo ih = let e′ = rw (et, firstLine, eo) at e in let z : _≡_ {A = ℕ} 0 1 = cc e′ in absurd (omega arith)
 
-    go : (l : FirstLine) → Ends {A = LineRead} (λ _. Unit {0}) OfText (elim l as (λ _. Outcome LineRead) [
-      | unended ↦ refused 3 (Place.Line at)
-      | ended body rest ↦ elim (lineNumbers key count body) [ none ↦ refused 3 (Place.Line at) | some ns ↦ done (record { numbers = ns; rest = rest }) ]
-    ])
-    go unended = refuses (form h)
-    go (ended body rest) = in-form rest (lineNumbers key count body)
+-- where a reader of the whole text is: the text left begins with line `lineNo`
+record Position (whole : List ℕ) (lineNo : ℕ) (text : List ℕ) : Type 0 where
+  first : 1 ≤ lineNo
+  counted : lineNo + lineCount text ≡ lineCount whole + 1
 
-number-ends : (key : String) (inRange : ℕ → Bool) (at : ℕ) (text : List ℕ) → 1 ≤ at → Ends (λ r. inRange (r .number) ≡ true) OfText (readNumber key inRange at text)
-unfolding readNumber
-number-ends key inRange at text h =
-    ends-then (line-ends key 1 at text h) λ l _.
-    ends-then (ends-ask (inRange (getD (l .numbers) 0 0)) 4 _ (range h)) λ _ r.
-    accepts r
+here : {whole text : List ℕ} {lineNo : ℕ} → Position whole lineNo text → lineNo ≤ 519 → LineOf whole lineNo
+here p h = record { first = p .first; next = omega (arith, p .counted); most = h }
 
--- what is true of pieces that were read from n lines
-record Pieces (n : ℕ) (ps : List Piece) : Type 0 where
-  count : length ps ≡ n
-  ranges : (i : ℕ) → i < length ps → pieceInRange (pieceAt ps i) ≡ true
-  areas : (i : ℕ) → i < length ps → hasArea (pieceAt ps i) ≡ true
+-- no line more
+on : {whole text : List ℕ} {lineNo : ℕ} → Position whole lineNo text → Position whole (lineNo + 0) text
+on p = record { first = omega (arith, p .first); counted = omega (arith, p .counted) }
 
-no-more : Pieces 0 []
-no-more = record { count = refl; ranges = λ i l. absurd (omega arith); areas = λ i l. absurd (omega arith) }
+module _ (whole : List ℕ) where
+  line-ends : (key : List ℕ) (count lineNo : ℕ) (text : List ℕ) → Position whole lineNo text → lineNo ≤ 519
+      → Ends (λ l. Position whole (suc lineNo) (l .rest)) (OfText whole) (readLine key count lineNo text)
+  unfolding readLine lineOf
+  line-ends key count lineNo text p h = go (firstLine text) refl
+    where
+      in-form : (rest : List ℕ) → Position whole (suc lineNo) rest → (body : List ℕ) → firstLine text ≡ ended body rest → (o : Option (List ℕ)) → lineNumbers key count body ≡ o
+          → Ends {A = NumbersRead} (λ l. Position whole (suc lineNo) (l .rest)) (OfText whole) (readLine key count lineNo text)
+      in-form rest q body e none eo = rw (e, lineOf, eo, readLine) (refuses (form (here p h)))
+      in-form rest q body e (some ns) eo = rw (e, lineOf, eo, readLine) (accepts q)
 
-one-more : {n : ℕ} {ps : List Piece} (p : Piece) → pieceInRange p ≡ true → hasArea p ≡ true → Pieces n ps → Pieces (suc n) (p ∷ ps)
-one-more p r a f = record {
-  count = ap suc (f .count);
-  ranges = λ i. elim i [ zero ↦ λ h. r | suc i ↦ λ h. f .ranges i (omega arith) ];
-  areas = λ i. elim i [ zero ↦ λ h. a | suc i ↦ λ h. f .areas i (omega arith) ];
-}
+      go : (l : FirstLine) → firstLine text ≡ l → Ends {A = NumbersRead} (λ l. Position whole (suc lineNo) (l .rest)) (OfText whole) (readLine key count lineNo text)
+      go unended e = rw (e, lineOf, readLine) (refuses (form (here p h)))
+      go (ended body rest) e = in-form rest (record { first = omega arith; counted = omega (arith, p .counted, first-counted text body rest e) }) body e (lineNumbers key count body) refl
 
-pieces-end : (n at : ℕ) (text : List ℕ) → 1 ≤ at → Ends (λ r. Pieces n (r .pieces)) OfText (readPieces n at text)
-unfolding readPieces
-pieces-end zero at text h = accepts no-more
-pieces-end (suc n) at text h =
-    ends-then (line-ends "piece=" 5 at text h) λ l _.
-    ends-then (judged-piece (Place.Line at) (pieceFrom (l .numbers)) (range h) (area h)) λ _ f.
-    ends-then (pieces-end n (suc at) (l .rest) (omega arith)) λ r g.
-    accepts (one-more (pieceFrom (l .numbers)) (f .0) (f .1) g)
+  number-ends : (expected : NumberLine) (lineNo : ℕ) (text : List ℕ) → Position whole lineNo text → lineNo ≤ 519
+      → Ends (λ r. (expected .range (r .number) ≡ true) × Position whole (suc lineNo) (r .rest)) (OfText whole) (readNumber expected lineNo text)
+  unfolding readNumber
+  number-ends expected lineNo text p h =
+      ends-then (line-ends (expected .key) 1 lineNo text p h) λ l q.
+      ends-then (ends-ask (expected .range (getD (l .numbers) 0 0)) 4 _ (range (here p h))) λ _ r.
+      accepts (r, q)
 
-pub read-ends : (text : List ℕ) → Ends (λ l. Sound (l .settings) (l .pieces)) OfText (readLayer text)
-unfolding readLayer settingsInRange
+-- each number is in the range that its line has
+abbrev InRanges : List NumberLine → List ℕ → Type 0
+InRanges ls ns = (i : ℕ) → i < length ls → getD ls i (record { key = []; range = λ _. true }) .range (getD ns i 0) ≡ true
+
+module _ (whole : List ℕ) where
+  numbers-end : (ls : List NumberLine) (lineNo : ℕ) (text : List ℕ) → Position whole lineNo text → lineNo + length ls ≤ 520
+      → Ends (λ r. InRanges ls (r .numbers) × Position whole (lineNo + length ls) (r .rest)) (OfText whole) (readNumbers ls lineNo text)
+  unfolding readNumbers
+  numbers-end [] lineNo text p h = accepts {a = record { numbers = []; rest = text }} (λ i l. absurd (omega arith), on p)
+  numbers-end (expected ∷ more) lineNo text p h =
+      ends-then (number-ends whole expected lineNo text p (omega arith)) λ n f.
+      ends-then (numbers-end more (suc lineNo) (n .rest) (f .1) (omega arith)) λ ns g.
+      accepts (λ i. elim i [ zero ↦ λ l. f .0 | suc i ↦ λ l. g .0 i (omega arith) ], record { first = omega (arith, p .first); counted = omega (arith, g .1 .counted) })
+
+  -- what is true of n pieces that were read, and of the text after them
+  record Pieces (n lineNo : ℕ) (ps : List Piece) (rest : List ℕ) : Type 0 where
+    count : length ps ≡ n
+    ranges : (i : ℕ) → i < length ps → pieceInRange (pieceAt ps i) ≡ true
+    areas : (i : ℕ) → i < length ps → hasArea (pieceAt ps i) ≡ true
+    after : Position whole (lineNo + n) rest
+
+  one-more : {n lineNo : ℕ} {ps : List Piece} {rest : List ℕ} (p : Piece) → pieceInRange p ≡ true → hasArea p ≡ true → Pieces n (suc lineNo) ps rest → Pieces (suc n) lineNo (p ∷ ps) rest
+  one-more p r a f = record {
+    count = ap suc (f .count);
+    ranges = λ i. elim i [ zero ↦ λ h. r | suc i ↦ λ h. f .ranges i (omega arith) ];
+    areas = λ i. elim i [ zero ↦ λ h. a | suc i ↦ λ h. f .areas i (omega arith) ];
+    after = record { first = omega (arith, f .after .first); counted = omega (arith, f .after .counted) };
+  }
+
+  piece-ends : (lineNo : ℕ) (text : List ℕ) → Position whole lineNo text → lineNo ≤ 519
+      → Ends (λ r. (pieceInRange (r .piece) ≡ true) × (hasArea (r .piece) ≡ true) × Position whole (suc lineNo) (r .rest)) (OfText whole) (readPiece lineNo text)
+  unfolding readPiece
+  piece-ends lineNo text p h =
+      ends-then (line-ends whole (ascii "piece=") 5 lineNo text p h) λ l q.
+      ends-then (judged-piece (Place.Line lineNo) (pieceFrom (l .numbers)) (range (here p h)) (area (here p h))) λ _ f.
+      accepts (f .0, f .1, q)
+
+  pieces-end : (n lineNo : ℕ) (text : List ℕ) → Position whole lineNo text → lineNo + n ≤ 520 → Ends (λ r. Pieces n lineNo (r .pieces) (r .rest)) (OfText whole) (readPieces n lineNo text)
+  unfolding readPieces
+  pieces-end zero lineNo text p h = accepts {a = record { pieces = []; rest = text }} (record {
+    count = refl;
+    ranges = λ i l. absurd (omega arith);
+    areas = λ i l. absurd (omega arith);
+    after = on p;
+  })
+  pieces-end (suc n) lineNo text p h =
+      ends-then (piece-ends lineNo text p (omega arith)) λ one f.
+      ends-then (pieces-end n (suc lineNo) (one .rest) (f .2) (omega arith)) λ r g.
+      accepts (one-more (one .piece) (f .0) (f .1) g)
+
+-- what is true of the six lines that were read, and of the text after them
+record Header (whole : List ℕ) (h : HeaderRead) : Type 0 where
+  settings : settingsInRange (h .settings) ≡ true
+  count : countInRange (h .count) ≡ true
+  after : Position whole 7 (h .rest)
+
+header-ends : (text : List ℕ) → Ends (Header text) (OfText text) (readHeader text)
+unfolding readHeader settingsInRange
+header-ends text =
+    ends-then (numbers-end text headerLines 1 text (record { first = omega arith; counted = omega arith }) (omega arith)) λ l f.
+    accepts (record {
+      settings = rw (f .0 0 (omega arith), f .0 1 (omega arith), f .0 2 (omega arith), f .0 3 (omega arith), f .0 4 (omega arith));
+      count = f .0 5 (omega arith);
+      after = f .1;
+    })
+
+few : (n : ℕ) → countInRange n ≡ true → n ≤ 512
+few n e = within-facts 0 512 n e .high
+
+-- there are at most 512 pieces
+pub header-few : (text : List ℕ) (h : HeaderRead) → readHeader text ≡ done h → h .count ≤ 512
+header-few text h e = few (h .count) (accepted (header-ends text) e .count)
+
+pub read-ends : (text : List ℕ) → Ends (λ l. Sound (l .settings) (l .pieces)) (OfText text) (readLayer text)
+unfolding readLayer readBody layerFrom
 read-ends text =
     ends-then (ends-ask (leb (length text) 32_768) 2 _ size) λ _ _.
-    ends-then (number-ends "masks=" masksInRange 1 text (omega arith)) λ masks a.
-    ends-then (number-ends "spacing=" spacingInRange 2 (masks .rest) (omega arith)) λ spacing b.
-    ends-then (number-ends "margin=" marginInRange 3 (spacing .rest) (omega arith)) λ margin c.
-    ends-then (number-ends "weight=" weightInRange 4 (margin .rest) (omega arith)) λ weight d.
-    ends-then (number-ends "budget=" budgetInRange 5 (weight .rest) (omega arith)) λ budget e.
-    ends-then (number-ends "pieces=" countInRange 6 (budget .rest) (omega arith)) λ count f.
-    ends-then (pieces-end (count .number) 7 (count .rest) (omega arith)) λ read g.
-    ends-then (ends-ask (isEmpty (read .rest)) 3 _ (form (omega arith))) λ _ _.
-    ends-then (judged-overlaps (read .pieces) (λ j l. overlap)) λ _ h.
-    accepts (record {
-      settings = rw (a, b, c, d, e);
-      count = rw (g .count) f;
-      ranges = g .ranges;
-      areas = g .areas;
-      apart = h;
-    })
+    ends-then (header-ends text) λ h f.
+    ends-then (pieces-end text (h .count) 7 (h .rest) (f .after) (omega (arith, few (h .count) (f .count)))) λ read g.
+    ends-then (ends-ask (isEmpty (read .rest)) 3 _ (form (here (g .after) (omega (arith, few (h .count) (f .count)))))) λ _ _.
+    ends-then (judged-overlaps (read .pieces) (λ j o l. overlap o (omega (arith, g .count, g .after .counted)) (omega (arith, g .count, few (h .count) (f .count))))) λ _ d.
+    accepts (record { settings = f .settings; count = rw (g .count) (f .count); ranges = g .ranges; areas = g .areas; apart = d })
 
 -- a layer that was read is valid
 pub read-valid : (text : List ℕ) (l : Layer) → readLayer text ≡ done l → Valid (l .settings) (l .pieces)

@@ -1,23 +1,24 @@
 -- For every input the questions give exactly one of two ends. A layer lent as records is accepted, and is then sound, or it is refused with a number and a
 -- place of the rules; a layer text is read as a sound layer, or refused likewise. A layer is valid exactly when it is sound, and exactly when no question
 -- refuses it. Each law goes through the questions in their order. Assumes nothing.
-use mathlib.Core.Bool.{true, false, not}
+use mathlib.Core.Bool.{Bool, true, false, not}
 use mathlib.Core.List.{List}
 use mathlib.Core.Logic.{_↔_}
 use mathlib.Core.Path.{_≡_, refl}
-use Prim.Native.Nat.{ℕ, _<_}
+use Prim.Native.Nat.{ℕ, zero, suc, _≤_, _<_}
 use native.Mathlib.Omega.{arith}
 use borrow.Author.Tests.{not-true}
 use lib.ListN.{length}
 use Rattle.rules.specs.declared.layer.Settings.{Settings}
 use Rattle.rules.specs.declared.layer.Piece.{Piece}
 use Rattle.rules.specs.declared.refusal.Place.{Place}
-use Rattle.rules.specs.Basics.{upTo, anyOf}
+use Rattle.rules.specs.Basics.{upFrom, upTo, anyOf}
 use Rattle.rules.specs.Settings.{settingsInRange, countInRange, pieceInRange, hasArea, pieceAt}
 use Rattle.rules.specs.Edges.{overlapping}
-use Rattle.rules.specs.Questions.{Outcome, done, refused, judgePiece, judgeOverlaps, judgeLayer, Valid}
+use Rattle.rules.specs.Questions.{Outcome, done, refused, ask, judgePiece, judgeOverlaps, judgeLayer, Valid}
+use Rattle.rules.specs.Refusals.{Ends, accepts, OfRecords, settings-or-count, range, area, overlap}
 use Rattle.rules.proofs.Lists.{any-out, out-any, in-upTo}
-use Rattle.rules.proofs.Outcomes.{Ends, ends-then, ends-map, ends-ask, ends-each, accepted, each-passes}
+use Rattle.rules.proofs.Outcomes.{ends-then, ends-map, ends-ask, ends-each, accepted, each-passes}
 
 -- ---- What is true of a layer that passes
 
@@ -27,14 +28,6 @@ pub record Sound (s : Settings) (ps : List Piece) : Type 0 where
   pub ranges : (i : ℕ) → i < length ps → pieceInRange (pieceAt ps i) ≡ true
   pub areas : (i : ℕ) → i < length ps → hasArea (pieceAt ps i) ≡ true
   pub apart : (i j : ℕ) → i < j → j < length ps → overlapping (pieceAt ps i) (pieceAt ps j) ≡ false
-
--- ---- The refusals of n lent records, and of a text: number and place
-
-pub data OfRecords (n : ℕ) : ℕ → Place → Type 0 where
-  settings-or-count : OfRecords n 4 Place.Nothing
-  range : {i : ℕ} → i < n → OfRecords n 4 (Place.Piece i)
-  area : {i : ℕ} → i < n → OfRecords n 5 (Place.Piece i)
-  overlap : {i : ℕ} → i < n → OfRecords n 6 (Place.Piece i)
 
 -- ---- Records
 
@@ -46,13 +39,20 @@ judged-piece place p r4 r5 =
     ends-then (ends-ask (pieceInRange p) 4 place r4) λ _ r.
     ends-map (λ _ a. (r, a)) (ends-ask (hasArea p) 5 place r5)
 
--- 6, with any refusals R that allow it for each piece
-pub judged-overlaps : {R : ℕ → Place → Type 0} (ps : List Piece) → ((j : ℕ) → j < length ps → R 6 (Place.Piece j))
+-- 6 for one piece; no piece is before the first
+asked-overlap : {R : ℕ → Place → Type 0} (f : ℕ → Bool) (j : ℕ) → (1 ≤ j → R 6 (Place.Piece j))
+    → Ends (λ _. not (anyOf f (upTo j)) ≡ true) R (ask (not (anyOf f (upTo j))) 6 (Place.Piece j))
+unfolding anyOf upFrom
+asked-overlap f zero r = accepts refl
+asked-overlap f (suc j) r = ends-ask (not (anyOf f (upTo (suc j)))) 6 _ (r (omega arith))
+
+-- 6, with any refusals R that allow it for each piece but the first
+pub judged-overlaps : {R : ℕ → Place → Type 0} (ps : List Piece) → ((j : ℕ) → 1 ≤ j → j < length ps → R 6 (Place.Piece j))
     → Ends (λ _. (i j : ℕ) → i < j → j < length ps → overlapping (pieceAt ps i) (pieceAt ps j) ≡ false) R (judgeOverlaps ps)
 unfolding judgeOverlaps
 judged-overlaps ps r =
     ends-map (λ _ d i j l h. any-out _ (upTo j) (not-true _ (d j h)) i (in-upTo j i .1 l))
-    (ends-each _ (length ps) (λ j h. ends-ask (not (anyOf (λ i. overlapping (pieceAt ps i) (pieceAt ps j)) (upTo j))) 6 _ (r j h)))
+    (ends-each _ (length ps) (λ j h. asked-overlap (λ i. overlapping (pieceAt ps i) (pieceAt ps j)) j (λ o. r j o h)))
 
 pub judged : (s : Settings) (ps : List Piece) → Ends (λ _. Sound s ps) (OfRecords (length ps)) (judgeLayer s ps)
 unfolding judgeLayer
@@ -62,7 +62,7 @@ judged s ps =
     ends-then (ends-each _ (length ps) (λ i h. judged-piece (Place.Piece i) (pieceAt ps i) (range h) (area h))) λ _ c.
     ends-map
     (λ _ d. record { settings = a; count = b; ranges = λ i h. c i h .0; areas = λ i h. c i h .1; apart = d })
-    (judged-overlaps ps (λ j h. overlap h))
+    (judged-overlaps ps (λ j o h. overlap o h))
 
 pub sound-overlaps : (s : Settings) (ps : List Piece) → Sound s ps → judgeOverlaps ps ≡ done tt
 unfolding judgeOverlaps

@@ -11,6 +11,7 @@ use Rattle.rules.specs.declared.answers.Score.{Score}
 use Rattle.rules.specs.declared.answers.SettingsAnswer.{SettingsAnswer}
 use Rattle.rules.specs.declared.answers.EdgeAnswer.{EdgeAnswer}
 use Rattle.rules.specs.declared.answers.ScoreAnswer.{ScoreAnswer}
+use Rattle.rules.specs.declared.answers.Decomposition.{Decomposition}
 use Rattle.rules.specs.declared.answers.DecomposeAnswer.{DecomposeAnswer}
 use Rattle.rules.specs.declared.answers.ReadAnswer.{ReadAnswer}
 use Rattle.rules.specs.declared.answers.LayerRead.{LayerRead}
@@ -42,16 +43,20 @@ abbrev pub scoreAnswer : ScoreAnswer → Outcome Score
 scoreAnswer (ScoreAnswer.Scored s) = done s
 scoreAnswer (ScoreAnswer.Refused q place) = refused (refusalNumber q) place
 
--- with the list that the call filled
-abbrev pub decomposeAnswer : DecomposeAnswer → List ℕ → Outcome Run
-decomposeAnswer (DecomposeAnswer.Decomposed d) masks = done (record {
+-- the run that its values and the masks beside them state
+abbrev pub runOf : Decomposition → List ℕ → Run
+runOf d masks = record {
   masks = masks;
   conflicts = d .conflicts;
   stitches = d .stitches;
   cost = d .cost;
   steps = d .steps;
   verdict = d .verdict;
-})
+}
+
+-- with the list that the call filled
+abbrev pub decomposeAnswer : DecomposeAnswer → List ℕ → Outcome Run
+decomposeAnswer (DecomposeAnswer.Decomposed d) masks = done (runOf d masks)
 decomposeAnswer (DecomposeAnswer.Refused q place) masks = refused (refusalNumber q) place
 
 -- the length written, of a text that was to be written
@@ -63,14 +68,13 @@ abbrev pub lengthOf : Outcome (List ℕ) → Outcome ℕ
 lengthOf (done text) = done (length text)
 lengthOf (refused number place) = refused number place
 
--- A layer that was read is handed back whole: its settings, the number of its pieces, and 512 records that are zero after its pieces.
--- A refusal hands back zeros.
+-- A layer that was read is handed back whole: its settings, the number of its pieces, and its pieces in 512 records. A refusal hands back zeros.
 abbrev pub readAnswer : ReadAnswer → Outcome (Unit {0})
 readAnswer ReadAnswer.Read = done tt
 readAnswer (ReadAnswer.Refused q place) = refused (refusalNumber q) place
 
-abbrev pub wasRead : Outcome Layer → Outcome (Unit {0})
-wasRead (done l) = done tt
+abbrev pub wasRead : {A : Type 0} → Outcome A → Outcome (Unit {0})
+wasRead (done a) = done tt
 wasRead (refused number place) = refused number place
 
 abbrev pub settingsRead : Outcome Layer → Settings
@@ -81,8 +85,12 @@ abbrev pub piecesRead : Outcome Layer → List Piece
 piecesRead (done l) = l .pieces
 piecesRead (refused number place) = []
 
+-- pieces in 512 records, zero after them
+abbrev pub inRecords : List Piece → List Piece
+inRecords ps = ps ++ replicate (512 - length ps) noPiece
+
 pub record HandedBack (o : Outcome Layer) (r : LayerRead) : Type 0 where
   pub answer : readAnswer (r .answer) ≡ wasRead o
   pub settings : r .settings ≡ settingsRead o
   pub count : r .count ≡ length (piecesRead o)
-  pub pieces : r .pieces ≡ piecesRead o ++ replicate (512 - length (piecesRead o)) noPiece
+  pub pieces : r .pieces ≡ inRecords (piecesRead o)

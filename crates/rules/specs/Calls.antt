@@ -54,7 +54,7 @@ writeLayer s ps buffer =
     andThen (judgeLayer s ps) λ _.
     done (layerText s ps)
 
--- the result text of the run on the layer that a text states, with a lent buffer for it
+-- the result text of the layer that a text states, with a lent buffer for it
 unfoldable pub decomposeText : List ℕ → List ℕ → Outcome (List ℕ)
 decomposeText text buffer =
     andThen (ask (leb 4_096 (length buffer)) 1 Place.Nothing) λ _.

@@ -1,7 +1,7 @@
 -- Putting pieces back, and the whole decomposition (RULES 7 and 8).
 use mathlib.Core.Bool.{Bool, true, false, not, _&&_}
 use mathlib.Core.List.{List, [], _∷_}
-use Prim.Native.Nat.{ℕ}
+use Prim.Native.Nat.{ℕ, _+_}
 use lib.Dec.{eqb}
 use lib.ListN.{length, set, replicate}
 use Rattle.rules.specs.declared.layer.Settings.{Settings}
@@ -10,9 +10,9 @@ use Rattle.rules.specs.declared.answers.Verdict.{Verdict}
 use Rattle.rules.specs.Basics.{upTo, anyOf, find, foundOr}
 use Rattle.rules.specs.Edges.{Graph, inConflict, graphOf}
 use Rattle.rules.specs.Score.{maskOf, scoreOf}
-use Rattle.rules.specs.Peeling.{Removal, low, hanging, peel}
+use Rattle.rules.specs.Peeling.{Removal, low, pendant, Peeled, peel}
 use Rattle.rules.specs.Components.{components}
-use Rattle.rules.specs.Search.{localGraph, searchFrom}
+use Rattle.rules.specs.Search.{localGraph, searchFrom, completeFrom}
 
 -- the masks ms of a component's places, put down at its vertices
 unfoldable pub putMasks : List ℕ → List ℕ → List ℕ → List ℕ
@@ -45,12 +45,16 @@ freeMask K g a v = foundOr 0 (find (λ m. not (anyOf (λ u. inConflict g v u && 
 -- An (A) vertex takes the lowest free mask, a (B) vertex its stitch neighbour's.
 unfoldable pub putBack : ℕ → Graph → Removal → Placed → Placed
 putBack K g (low v) a = record { there = v ∷ a .there; masks = set (a .masks) v (freeMask K g a v) }
-putBack K g (hanging v u) a = record { there = v ∷ a .there; masks = set (a .masks) v (maskOf (a .masks) u) }
+putBack K g (pendant v u) a = record { there = v ∷ a .there; masks = set (a .masks) v (maskOf (a .masks) u) }
 
 -- Removed vertices return in reverse order: the one removed first is put back last.
 unfoldable pub putBackAll : ℕ → Graph → List Removal → Placed → Placed
 putBackAll K g [] a = a
 putBackAll K g (r ∷ rs) a = putBack K g r (putBackAll K g rs a)
+
+-- the masks with all removed vertices back
+abbrev pub withReturned : ℕ → Graph → Peeled → List ℕ → List ℕ
+withReturned K g peeled masks = putBackAll K g (peeled .removed) (record { there = peeled .core; masks = masks }) .masks
 
 -- What is reached at a budget on the vertices vs, a rising list: the masks made of the incumbents then kept, removed vertices back, and the steps.
 -- The masks of other vertices stay as they were.
@@ -58,12 +62,41 @@ unfoldable pub decompose : ℕ → ℕ → ℕ → Graph → List ℕ → List �
 decompose K weight budget g vs masks =
     let peeled = peel K g vs in
     let searched = searchAll K weight budget g (components g (peeled .core)) (record { steps = 0; stopped = false; masks = masks }) in
-    let placed = putBackAll K g (peeled .removed) (record { there = peeled .core; masks = searched .masks }) in
-    record { steps = searched .steps; stopped = searched .stopped; masks = placed .masks }
+    record { steps = searched .steps; stopped = searched .stopped; masks = withReturned K g peeled (searched .masks) }
 
 -- what is reached on a layer at the settings' budget
 abbrev pub reached : Settings → List Piece → Reached
 reached s ps = decompose (s .masks) (s .weight) (s .budget) (graphOf s ps) (upTo (length ps)) (replicate (length ps) 0)
+
+-- ---- Without a budget
+
+-- What the search comes to when nothing stops it: its steps in all, and the masks.
+pub record Completed : Type 0 where
+  pub steps : ℕ
+  pub masks : List ℕ
+
+-- The components' steps add up.
+unfoldable pub completeAll : ℕ → ℕ → Graph → List (List ℕ) → Completed → Completed
+completeAll K weight g [] w = w
+completeAll K weight g (order ∷ orders) w =
+    let s = completeFrom K weight (localGraph g order) (length order) in
+    completeAll K weight g orders (record { steps = w .steps + s .steps; masks = putMasks order (s .incumbent) (w .masks) })
+
+unfoldable pub complete : ℕ → ℕ → Graph → List ℕ → List ℕ → Completed
+complete K weight g vs masks =
+    let peeled = peel K g vs in
+    let searched = completeAll K weight g (components g (peeled .core)) (record { steps = 0; masks = masks }) in
+    record { steps = searched .steps; masks = withReturned K g peeled (searched .masks) }
+
+-- the same for a layer; the settings' budget plays no part in it
+abbrev pub completed : Settings → List Piece → Completed
+completed s ps = complete (s .masks) (s .weight) (graphOf s ps) (upTo (length ps)) (replicate (length ps) 0)
+
+-- how many steps the search takes on a layer in all
+abbrev pub stepsInAll : Settings → List Piece → ℕ
+stepsInAll s ps = completed s ps .steps
+
+-- ---- Runs
 
 -- best when no step was due beyond the budget
 abbrev pub verdictOf : Bool → Verdict

@@ -1,21 +1,60 @@
--- The three demands (RULES 8). Demand 1, that every call comes to one of its ends, is each promise's equation with an outcome of Calls.antt; the counts and
--- edges of demand 2 are those of Score.antt and Edges.antt. What is more than an equation of one call stands here.
-use mathlib.Core.Bool.{false}
+-- The three demands (RULES 8), each as a type: what is proved is a value of it.
 use mathlib.Core.List.{List}
 use mathlib.Core.Logic.{_↔_}
 use mathlib.Core.Path.{_≡_}
-use Prim.Native.Nat.{ℕ, _≤_, _<_}
+use mathlib.Core.Bool.{true}
+use Prim.Native.Nat.{ℕ, _*_, _≤_, _<_, min}
 use lib.ListN.{length, getD}
 use Rattle.rules.specs.declared.layer.Settings.{Settings}
 use Rattle.rules.specs.declared.layer.Piece.{Piece}
+use Rattle.rules.specs.declared.layer.Edge.{Edge}
+use Rattle.rules.specs.declared.refusal.Place.{Place}
+use Rattle.rules.specs.declared.answers.Score.{Score}
 use Rattle.rules.specs.declared.answers.Verdict.{Verdict}
-use Rattle.rules.specs.Edges.{graphOf}
+use Rattle.rules.specs.Settings.{settingsInRange, pieceAt}
+use Rattle.rules.specs.Edges.{squaredGap, contact, edgeOf, graphOf}
 use Rattle.rules.specs.Score.{scoreOf}
-use Rattle.rules.specs.Decomposition.{Run, reached}
+use Rattle.rules.specs.Decomposition.{Run, reached, completed, stepsInAll}
 use Rattle.rules.specs.LayerText.{layerText}
-use Rattle.rules.specs.Questions.{done, Valid, Layer, readLayer}
+use Rattle.rules.specs.Questions.{Outcome, done, refused, Valid, Layer, readLayer}
+use Rattle.rules.specs.Calls.{newSettings, edgeBetween, scoreMasks, decomposeLayer, masksAfter, writeLayer, decomposeText, bufferAfter}
+use Rattle.rules.specs.Refusals.{Ends, OfSettings, OfRecords, OfMaskList, OfMasks, OfText, OfBuffer}
 
--- ---- Demand 2: a layer text reads as just the layer it states, and a layer written reads back as itself
+-- an assignment of these pieces to these masks: a list of n masks, each below K
+pub record Assignment (s : Settings) (ps : List Piece) (masks : List ℕ) : Type 0 where
+  pub size : length masks ≡ length ps
+  pub below : (i : ℕ) → i < length ps → getD masks i 0 < s .masks
+
+-- what masks score on a layer
+abbrev pub layerScore : Settings → List Piece → List ℕ → Score
+layerScore s ps masks = scoreOf (s .weight) (graphOf s ps) masks (length ps)
+
+-- ---- Demand 1: every call comes to an end of its own, whatever its input
+
+pub record Demand1 : Type 0 where
+  pub settings : (masks spacing margin weight budget : ℕ) → Ends (λ s. settingsInRange s ≡ true) OfSettings (newSettings masks spacing margin weight budget)
+  pub edge : (s : Settings) (a b : Piece) → Ends (λ e. e ≡ edgeOf s a b) (OfRecords 2) (edgeBetween s a b)
+  pub score : (s : Settings) (ps : List Piece) (masks : List ℕ) → Ends (λ r. r ≡ layerScore s ps masks) (OfMasks (length ps)) (scoreMasks s ps masks)
+  -- a mask for every piece, marked best or open
+  pub decompose : (s : Settings) (ps : List Piece) (masks : List ℕ) → Ends (λ r. Assignment s ps (r .masks)) (OfMaskList (length ps)) (decomposeLayer s ps masks)
+  pub read : (text : List ℕ) → Ends (λ l. Valid (l .settings) (l .pieces)) (OfText text) (readLayer text)
+  -- what is written has room in the buffer
+  pub write : (s : Settings) (ps : List Piece) (buffer : List ℕ) → Ends (λ text. length text ≤ length buffer) (OfBuffer (OfRecords (length ps))) (writeLayer s ps buffer)
+  pub load : (text buffer : List ℕ) → Ends (λ result. length result ≤ length buffer) (OfBuffer (OfText text)) (decomposeText text buffer)
+  -- a refusal leaves lent memory as it was
+  pub masksKept : (number : ℕ) (place : Place) (masks : List ℕ) → masksAfter (refused number place) masks ≡ masks
+  pub bufferKept : (number : ℕ) (place : Place) (buffer : List ℕ) → bufferAfter (refused number place) buffer ≡ buffer
+
+-- ---- Demand 2: edges and counts are those of the rules, and texts state layers
+
+-- what joins two pieces by a conflict edge, and by a stitch edge
+pub record TooClose (s : Settings) (p q : Piece) : Type 0 where
+  pub shapes : p .shape ≡ q .shape → ⊥
+  pub near : squaredGap p q < s .spacing * s .spacing
+
+pub record Stitchable (s : Settings) (p q : Piece) : Type 0 where
+  pub shape : p .shape ≡ q .shape
+  pub touching : s .margin ≤ contact p q
 
 -- a text states a layer
 pub record States (text : List ℕ) (l : Layer) : Type 0 where
@@ -24,6 +63,14 @@ pub record States (text : List ℕ) (l : Layer) : Type 0 where
   pub written : text ≡ layerText (l .settings) (l .pieces)
 
 pub record Demand2 : Type 0 where
+  pub conflict : (s : Settings) (p q : Piece) → (edgeOf s p q ≡ Edge.Conflict) ↔ TooClose s p q
+  pub stitch : (s : Settings) (p q : Piece) → (edgeOf s p q ≡ Edge.Stitch) ↔ Stitchable s p q
+  -- the graph of a layer has just these edges
+  pub conflicts : (s : Settings) (ps : List Piece) (u v : ℕ) → (graphOf s ps .conflicts u v ≡ 1) ↔ TooClose s (pieceAt ps u) (pieceAt ps v)
+  pub stitches : (s : Settings) (ps : List Piece) (u v : ℕ) → (graphOf s ps .stitches u v ≡ 1) ↔ Stitchable s (pieceAt ps u) (pieceAt ps v)
+  -- counts and cost belong to the masks
+  pub counts : (s : Settings) (ps : List Piece) (lent : List ℕ) (r : Run) → decomposeLayer s ps lent ≡ done r
+      → record { conflicts = r .conflicts; stitches = r .stitches; cost = r .cost } ≡ layerScore s ps (r .masks)
   pub asStated : (text : List ℕ) (l : Layer) → (readLayer text ≡ done l) ↔ States text l
   pub readsBack : (l : Layer) → Valid (l .settings) (l .pieces) → readLayer (layerText (l .settings) (l .pieces)) ≡ done l
 
@@ -37,29 +84,27 @@ pub record Alike (s₁ s₂ : Settings) : Type 0 where
   pub weight : s₁ .weight ≡ s₂ .weight
   pub budget : s₁ .budget ≤ s₂ .budget
 
--- an assignment of these pieces to these masks: a list of n masks, each below K
-pub record Assignment (s : Settings) (ps : List Piece) (masks : List ℕ) : Type 0 where
-  pub size : length masks ≡ length ps
-  pub below : (i : ℕ) → i < length ps → getD masks i 0 < s .masks
-
 -- what an assignment costs, by the score
 abbrev pub assignmentCost : Settings → List Piece → List ℕ → ℕ
-assignmentCost s ps masks = scoreOf (s .weight) (graphOf s ps) masks (length ps) .cost
+assignmentCost s ps masks = layerScore s ps masks .cost
 
--- the search ends within the budget: no step is due beyond it
+-- the search ends within the budget: without one it takes no more steps
 abbrev pub EndsWithin : Settings → List Piece → Type 0
-EndsWithin s ps = reached s ps .stopped ≡ false
+EndsWithin s ps = stepsInAll s ps ≤ s .budget
 
--- What holds of one run: its masks and steps are those reached at its budget, its counts and cost are those of its masks,
--- every piece has a mask, and it says best exactly when the search ends within its budget.
+-- What holds of one run. Its masks and steps are those reached at its budget, its counts and cost are those of its masks, and every piece has a mask.
+-- It says best exactly when the search ends within its budget. Its steps are those of the search without a budget, or the budget if that is less;
+-- and where the search ends, its masks are those that the search without a budget leaves.
 pub record OneRun (s : Settings) (ps : List Piece) (r : Run) : Type 0 where
   pub masks : r .masks ≡ reached s ps .masks
   pub steps : r .steps ≡ reached s ps .steps
-  pub conflicts : r .conflicts ≡ scoreOf (s .weight) (graphOf s ps) (r .masks) (length ps) .conflicts
-  pub stitches : r .stitches ≡ scoreOf (s .weight) (graphOf s ps) (r .masks) (length ps) .stitches
+  pub conflicts : r .conflicts ≡ layerScore s ps (r .masks) .conflicts
+  pub stitches : r .stitches ≡ layerScore s ps (r .masks) .stitches
   pub cost : r .cost ≡ assignmentCost s ps (r .masks)
   pub whole : Assignment s ps (r .masks)
   pub best : (r .verdict ≡ Verdict.Best) ↔ EndsWithin s ps
+  pub spent : r .steps ≡ min (stepsInAll s ps) (s .budget)
+  pub ended : EndsWithin s ps → r .masks ≡ completed s ps .masks
 
 -- Demand 3 of two runs on one layer, at settings that are alike.
 pub record Demand3 (s₁ s₂ : Settings) (ps : List Piece) (r₁ r₂ : Run) : Type 0 where

@@ -55,7 +55,7 @@ edgeOf s p q = cond (conflictEdge s p q) Edge.Conflict (cond (stitchEdge s p q) 
 unfoldable pub overlapping : Piece → Piece → Bool
 overlapping p q = sameShape p q && ltb 0 (overlapX p q) && ltb 0 (overlapY p q)
 
--- The decomposition graph: how many conflict edges and how many stitch edges join two vertices. The rules from here on see only this graph.
+-- The decomposition graph: for two vertices, the number of their conflict edges and that of their stitch edges. The rules from here on see only this graph.
 pub record Graph : Type 0 where
   pub conflicts : ℕ → ℕ → ℕ
   pub stitches : ℕ → ℕ → ℕ

@@ -6,10 +6,12 @@ pub mod Peeling
 pub mod Components
 pub mod Search
 pub mod Decomposition
+pub mod Lines
 pub mod LayerText
 pub mod ResultText
 pub mod Questions
 pub mod Calls
+pub mod Refusals
 pub mod Loader
 pub mod Answers
 pub mod Demands

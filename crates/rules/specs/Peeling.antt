@@ -19,19 +19,19 @@ abbrev pub lowDegree : ℕ → Graph → List ℕ → ℕ → Bool
 lowDegree K g there v = eqb (stitchDegree g there v) 0 && ltb (conflictDegree g there v) K
 
 -- (B) no conflict edge and one stitch edge
-abbrev pub pendant : Graph → List ℕ → ℕ → Bool
-pendant g there v = eqb (conflictDegree g there v) 0 && eqb (stitchDegree g there v) 1
+abbrev pub isPendant : Graph → List ℕ → ℕ → Bool
+isPendant g there v = eqb (conflictDegree g there v) 0 && eqb (stitchDegree g there v) 1
 
 unfoldable pub mayGo : ℕ → Graph → List ℕ → ℕ → Bool
-mayGo K g there v = lowDegree K g there v || pendant g there v
+mayGo K g there v = lowDegree K g there v || isPendant g there v
 
 -- a removed vertex: by (A), or by (B) with its stitch neighbour
 pub data Removal : Type 0 where
   low : ℕ → Removal
-  hanging : ℕ → ℕ → Removal
+  pendant : ℕ → ℕ → Removal
 
 abbrev pub removalOf : ℕ → Graph → List ℕ → ℕ → Removal
-removalOf K g there v = cond (lowDegree K g there v) (low v) (hanging v (foundOr v (find (inStitch g v) there)))
+removalOf K g there v = cond (lowDegree K g there v) (low v) (pendant v (foundOr v (find (inStitch g v) there)))
 
 -- the removals in their order, and what is left
 pub record Peeled : Type 0 where

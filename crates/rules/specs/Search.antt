@@ -97,3 +97,40 @@ searchFrom K weight budget g k steps stopped =
     let add = added weight g in
     let first = firstAfter add K k [] in
     searchPlaces add (candidates K) budget k [] 0 (state steps stopped (total add first) first)
+
+-- ---- The search without a budget
+
+-- Where it stands: the steps taken, and the incumbent with its cost.
+pub record Progress : Type 0 where
+  pub steps : ℕ
+  pub cost : ℕ
+  pub incumbent : List ℕ
+
+abbrev pub progress : ℕ → ℕ → List ℕ → Progress
+progress n c h = record { steps = n; cost = c; incumbent = h }
+
+-- one step more
+abbrev pub further : Progress → Progress
+further s = progress (suc (s .steps)) (s .cost) (s .incumbent)
+
+module _ (add : List ℕ → ℕ → ℕ) where
+  -- the masks ms after p, as in `tryMasks`
+  unfoldable pub completeMasks : (List ℕ → ℕ → Progress → Progress) → List ℕ → List ℕ → ℕ → Progress → Progress
+  completeMasks next [] p c s = s
+  completeMasks next (m ∷ ms) p c s = elim (ltb (c + add p m) (s .cost)) [
+    | true ↦ completeMasks next ms p c (next (p ++ (m ∷ [])) (c + add p m) (further s))
+    | false ↦ completeMasks next ms p c (further s)
+  ]
+
+module _ (add : List ℕ → ℕ → ℕ) (cands : List ℕ → List ℕ) where
+  -- the places left after p, as in `searchPlaces`
+  unfoldable pub completePlaces : ℕ → List ℕ → ℕ → Progress → Progress
+  completePlaces zero p c s = progress (s .steps) c p
+  completePlaces (suc left) p c s = completeMasks add (completePlaces left) (cands p) p c s
+
+-- The whole search of one component of k places, from its first assignment on.
+abbrev pub completeFrom : ℕ → ℕ → Graph → ℕ → Progress
+completeFrom K weight g k =
+    let add = added weight g in
+    let first = firstAfter add K k [] in
+    completePlaces add (candidates K) k [] 0 (progress 0 (total add first) first)

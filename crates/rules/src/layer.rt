@@ -1,5 +1,5 @@
-// Settings, pieces and edges (RULES 1 and 2). Fields are as wide as a caller can lend them, so that a
-// value out of range can be given and is refused.
+// Settings, pieces and edges (RULES 1 and 2). Fields are wider than their ranges, so that a call can be
+// given any value and refuses what is out of range.
 ghost use mathlib.Core.Path.{_≡_};
 ghost use Rattle.rules.specs.Answers.{settingsAnswer};
 ghost use Rattle.rules.specs.Calls.{newSettings};
@@ -98,7 +98,7 @@ pub fn in_limits(least: u32, greatest: u32, x: u32) -> bool
     least <= x && x <= greatest
 }
 
-// A rectangle and the number of the shape that it is part of.
+// A rectangle, and which shape it belongs to.
 pub struct Piece {
     pub shape: u32,
     pub x1: u32,

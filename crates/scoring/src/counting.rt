@@ -4,7 +4,8 @@ ghost use Prim.Native.Nat.{_<_, _≤_};
 ghost use lib.ListN.{length};
 ghost use Rattle.rules.specs.Basics.{given};
 ghost use Rattle.rules.specs.Score.{scoreOf, costOf};
-ghost use Rattle.scoring.specs.Counts.{graphIn, conflictIn, stitchIn, RowCount};
+ghost use Rattle.layout.specs.Adjacency.{wordGraph};
+ghost use Rattle.scoring.specs.ScoreWords.{conflictIn, stitchIn, RowCount};
 use rules::Score;
 
 // Conflicts and stitches that were counted.
@@ -89,7 +90,7 @@ pub fn score_words(
     requires { ⌜ weight ≤ 1000 ⌝ }
     requires { ⌜ n ≤ 512 ⌝ }
     requires { ⌜ length (now masks) ≡ n ⌝ }
-    ensures { λ r. ⌜ r ≡ scoreOf weight (graphIn (now (conflicts .entry)) (now (stitches .entry))) (now (masks .entry)) n ⌝ }
+    ensures { λ r. ⌜ r ≡ scoreOf weight (wordGraph (now (conflicts .entry)) (now (stitches .entry))) (now (masks .entry)) n ⌝ }
 {
     let mut conflict_count: u32 = 0;
     let mut stitch_count: u32 = 0;

@@ -9,7 +9,7 @@ ghost use Rattle.rules.specs.Questions.{askEach, Valid};
 ghost use Rattle.rules.specs.Score.{scoreOf};
 ghost use Rattle.layout.specs.Flat.{piecesOf};
 ghost use Rattle.layout.specs.Judged.{judgement};
-ghost use Rattle.scoring.specs.Counts.{maskQuestion};
+ghost use Rattle.scoring.specs.ScoreWords.{maskQuestion};
 use crate::counting::score_words;
 use layout::Judgement;
 use rules::Place;

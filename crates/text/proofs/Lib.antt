@@ -1,19 +1,7 @@
--- Laws of the texts, each stated once.
-pub mod Decimal
-pub mod Digits
-pub mod Puts
-pub mod Splits
-pub mod Parts
-pub mod Reading
-pub mod LineForm
-pub mod Ranges
-pub mod SixLines
+-- Laws of the layer text, each stated once.
+pub mod HeaderLines
 pub mod PieceLines
 pub mod Overlapping
-pub mod Layers
-pub mod Written
-pub mod Validity
-pub mod LayerLines
-pub mod Sizes
-pub mod Demand2
-pub mod Laying
+pub mod LayerSizes
+pub mod WrittenLayers
+pub mod LayerReading

@@ -1,5 +1,2 @@
-pub mod Numeral
-pub mod Lines
 pub mod Header
 pub mod Pieces
-pub mod Writing

@@ -1,98 +1,97 @@
 // The six lines before the pieces: the settings and the number of pieces.
-ghost use Prim.Native.Nat.{_<_};
-ghost use Rattle.text.specs.Numeral.{cap};
-ghost use Rattle.text.specs.Header.{NumberFound, SettingFound, HeaderFound};
-use crate::lines::read_line;
+ghost use mathlib.Core.Path.{_≡_};
+ghost use Prim.Native.Nat.{_<_, _+_};
+ghost use lib.ListN.{getD};
+ghost use Rattle.rules.specs.Questions.{settingsFrom};
+ghost use Rattle.rules.specs.Settings.{within};
+ghost use Rattle.lines.specs.ReadLines.{cap};
+ghost use Rattle.text.specs.declared.header.HeaderAnswer.{HeaderAnswer};
+ghost use Rattle.text.specs.Header.{headerLine, NumberFound, HeaderFound};
+use lines::read_line;
 use rules::Piece;
+use rules::Place;
 use rules::Refusal;
 use rules::Settings;
 use rules::in_limits;
 
-// The number of a line and how many bytes the line has, or the question that was answered with no.
-pub enum NumberLine {
+// The number of a line and how many bytes the line has, or a refusal.
+pub enum NumberAnswer {
     Number(u32, usize),
-    Refused(Refusal),
+    Refused(Refusal, Place),
 }
 
 // The text's first line, which is to have this key and one number in this range.
-fn read_number(text: &[u8], key: &[u8], least: u32, greatest: u32) -> NumberLine
+fn read_number(text: &[u8], line: u32, key: &[u8], least: u32, greatest: u32) -> NumberAnswer
     requires { ⌜ greatest < cap ⌝ }
-    ensures { λ r. ⌜ NumberFound (now (text .entry)) (now (key .entry)) least greatest r ⌝ }
+    ensures { λ r. ⌜ NumberFound (record { key = now (key .entry); range = within least greatest }) line (now (text .entry)) r ⌝ }
 {
-    let line = read_line(text, key, 1);
-    if !line.good {
-        return NumberLine::Refused(Refusal::Form);
+    let read = read_line(text, key, 1);
+    if !read.good {
+        return NumberAnswer::Refused(Refusal::Form, Place::Line(line));
     }
-    let number = line.values[0];
+    let number = read.values[0];
     if !in_limits(least, greatest, number) {
-        return NumberLine::Refused(Refusal::Range);
+        return NumberAnswer::Refused(Refusal::Range, Place::Line(line));
     }
-    NumberLine::Number(number, line.bytes)
+    NumberAnswer::Number(number, read.bytes)
 }
 
 // Line i of the six, from 0.
-fn read_setting(text: &[u8], i: usize) -> NumberLine
-    ensures { λ r. ⌜ SettingFound (now (text .entry)) i r ⌝ }
+fn read_setting(text: &[u8], i: usize) -> NumberAnswer
+    requires { ⌜ i < 6 ⌝ }
+    ensures { λ r. ⌜ NumberFound (headerLine i) (i + 1) (now (text .entry)) r ⌝ }
 {
+    let line = (i as u32) + 1;
     match i {
         0 => read_number(
             text,
+            line,
             b"masks=",
             Settings::MASKS_LEAST,
             Settings::MASKS_GREATEST,
         ),
         1 => read_number(
             text,
+            line,
             b"spacing=",
             Settings::SPACING_LEAST,
             Settings::SPACING_GREATEST,
         ),
         2 => read_number(
             text,
+            line,
             b"margin=",
             Settings::MARGIN_LEAST,
             Settings::MARGIN_GREATEST,
         ),
         3 => read_number(
             text,
+            line,
             b"weight=",
             Settings::WEIGHT_LEAST,
             Settings::WEIGHT_GREATEST,
         ),
         4 => read_number(
             text,
+            line,
             b"budget=",
             Settings::BUDGET_LEAST,
             Settings::BUDGET_GREATEST,
         ),
-        _ => read_number(text, b"pieces=", 0, Piece::COUNT_GREATEST as u32),
+        _ => read_number(text, line, b"pieces=", 0, Piece::COUNT_GREATEST as u32),
     }
 }
 
-// The settings, the number of pieces and the place after the six lines, or a refusal with its line.
-pub enum Header {
+// The settings, the number of pieces and how many bytes the six lines have, or a refusal.
+pub enum HeaderAnswer {
     Read(Settings, usize, usize),
-    Refused(Refusal, u32),
+    Refused(Refusal, Place),
 }
 
-pub fn read_header(text: &[u8]) -> Header
-    ensures { λ r. ⌜ HeaderFound (now (text .entry)) r ⌝ }
+// The answer that the numbers of all six lines make.
+fn header_from(values: [u32; 6], bytes: usize) -> HeaderAnswer
+    ensures { λ r. ⌜ r ≡ HeaderAnswer.Read (settingsFrom values) (getD values 5 0) bytes ⌝ }
 {
-    let mut values = [0u32; 6];
-    let mut at = 0;
-    let mut i = 0;
-    while i < 6 {
-        match read_setting(&text[at..], i) {
-            NumberLine::Number(number, bytes) => {
-                values[i] = number;
-                at += bytes;
-                i += 1;
-            }
-            NumberLine::Refused(question) => {
-                return Header::Refused(question, (i as u32) + 1);
-            }
-        }
-    }
     let settings = Settings {
         masks: values[0],
         spacing: values[1],
@@ -100,6 +99,26 @@ pub fn read_header(text: &[u8]) -> Header
         weight: values[3],
         budget: values[4],
     };
-    let count = values[5] as usize;
-    Header::Read(settings, count, at)
+    HeaderAnswer::Read(settings, values[5] as usize, bytes)
+}
+
+pub fn read_header(text: &[u8]) -> HeaderAnswer
+    ensures { λ r. ⌜ HeaderFound (now (text .entry)) r ⌝ }
+{
+    let mut values = [0u32; 6];
+    let mut at = 0;
+    let mut i = 0;
+    while i < 6 {
+        match read_setting(&text[at..], i) {
+            NumberAnswer::Number(number, bytes) => {
+                values[i] = number;
+                at += bytes;
+                i += 1;
+            }
+            NumberAnswer::Refused(refusal, place) => {
+                return HeaderAnswer::Refused(refusal, place);
+            }
+        }
+    }
+    header_from(values, at)
 }

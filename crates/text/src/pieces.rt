@@ -2,51 +2,56 @@
 ghost use mathlib.Core.Path.{_≡_};
 ghost use Prim.Native.Nat.{_≤_};
 ghost use lib.ListN.{replicate};
+ghost use Rattle.rules.specs.Questions.{pieceFrom};
 ghost use Rattle.rules.specs.Settings.{noPiece};
 ghost use Rattle.text.specs.Pieces.{PieceFound, PiecesFound};
-use crate::lines::read_line;
-use layout::has_area;
-use layout::piece_in_range;
+use layout::Judgement;
+use layout::judge_piece;
+use lines::read_line;
 use rules::Piece;
 use rules::Place;
 use rules::ReadAnswer;
 use rules::Refusal;
 
-// The piece of a line and how many bytes the line has, or the question that was answered with no.
-pub enum PieceLine {
+// The piece of a line and how many bytes the line has, or a refusal.
+pub enum PieceAnswer {
     Read(Piece, usize),
-    Refused(Refusal),
+    Refused(Refusal, Place),
 }
 
-// The text's first line, which is to state a piece.
-fn read_piece(text: &[u8]) -> PieceLine
-    ensures { λ r. ⌜ PieceFound (now (text .entry)) r ⌝ }
+// The piece that five numbers state.
+fn piece_from(values: [u32; 5]) -> Piece
+    ensures { λ r. ⌜ r ≡ pieceFrom values ⌝ }
 {
-    let line = read_line(text, b"piece=", 5);
-    if !line.good {
-        return PieceLine::Refused(Refusal::Form);
-    }
-    let values = line.values;
-    let piece = Piece {
+    Piece {
         shape: values[0],
         x1: values[1],
         y1: values[2],
         x2: values[3],
         y2: values[4],
-    };
-    if !piece_in_range(piece) {
-        return PieceLine::Refused(Refusal::Range);
     }
-    if !has_area(piece) {
-        return PieceLine::Refused(Refusal::Area);
-    }
-    PieceLine::Read(piece, line.bytes)
 }
 
-// Pieces read, with the place after their lines. After a refusal the records say nothing.
+// The text's first line, which is to state a piece.
+fn read_piece(text: &[u8], line: u32) -> PieceAnswer
+    ensures { λ r. ⌜ PieceFound line (now (text .entry)) r ⌝ }
+{
+    let read = read_line(text, b"piece=", 5);
+    if !read.good {
+        return PieceAnswer::Refused(Refusal::Form, Place::Line(line));
+    }
+    let values = read.values;
+    let piece = piece_from(values);
+    match judge_piece(Place::Line(line), piece) {
+        Judgement::Refused(refusal, place) => PieceAnswer::Refused(refusal, place),
+        Judgement::Passed => PieceAnswer::Read(piece, read.bytes),
+    }
+}
+
+// Pieces in records that are zero after them, and how many bytes their lines have. After a refusal all is zero.
 pub struct Pieces {
     pub answer: ReadAnswer,
-    pub at: usize,
+    pub bytes: usize,
     pub records: [Piece; 512],
 }
 
@@ -72,25 +77,25 @@ pub fn read_pieces(text: &[u8], count: usize) -> Pieces
     let mut at = 0;
     let mut k = 0;
     while k < count {
-        match read_piece(&text[at..]) {
-            PieceLine::Read(piece, bytes) => {
+        match read_piece(&text[at..], (k as u32) + 7) {
+            PieceAnswer::Read(piece, bytes) => {
                 records[k] = piece;
                 at += bytes;
                 k += 1;
             }
-            PieceLine::Refused(question) => {
-                let line = (k as u32) + 7;
+            PieceAnswer::Refused(refusal, place) => {
+                let zeros = no_pieces();
                 return Pieces {
-                    answer: ReadAnswer::Refused(question, Place::Line(line)),
-                    at: 0,
-                    records: records,
+                    answer: ReadAnswer::Refused(refusal, place),
+                    bytes: 0,
+                    records: zeros,
                 };
             }
         }
     }
     Pieces {
         answer: ReadAnswer::Read,
-        at: at,
+        bytes: at,
         records: records,
     }
 }

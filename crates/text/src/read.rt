@@ -1,23 +1,24 @@
 // A layer text read: questions 2 to 6.
+ghost use mathlib.Core.Path.{_≡_};
 ghost use Prim.Native.Nat.{_≤_};
-ghost use Rattle.rules.specs.Answers.{HandedBack};
-ghost use Rattle.rules.specs.Questions.{refused, readLayer};
-ghost use Rattle.rules.specs.Answers.{refusalNumber};
-ghost use Rattle.text.specs.Header.{layerBody};
-use crate::header::Header;
+ghost use lib.ListN.{take};
+ghost use Rattle.rules.specs.Answers.{refusalNumber, inRecords, HandedBack};
+ghost use Rattle.rules.specs.Questions.{refused, layerFrom, readBody, readLayer};
+use crate::header::HeaderAnswer;
 use crate::header::read_header;
 use crate::overlaps::judge_overlaps;
 use crate::pieces::no_pieces;
 use crate::pieces::read_pieces;
 use rules::LayerRead;
+use rules::Piece;
 use rules::Place;
 use rules::ReadAnswer;
 use rules::Refusal;
 use rules::Settings;
 
 // A refusal hands back zeros.
-fn refuse(question: Refusal, place: Place) -> LayerRead
-    ensures { λ r. ⌜ HandedBack (refused (refusalNumber question) place) r ⌝ }
+fn refuse(refusal: Refusal, place: Place) -> LayerRead
+    ensures { λ r. ⌜ HandedBack (refused (refusalNumber refusal) place) r ⌝ }
 {
     let settings = Settings {
         masks: 0,
@@ -28,29 +29,21 @@ fn refuse(question: Refusal, place: Place) -> LayerRead
     };
     let pieces = no_pieces();
     LayerRead {
-        answer: ReadAnswer::Refused(question, place),
+        answer: ReadAnswer::Refused(refusal, place),
         settings: settings,
         count: 0,
         pieces: pieces,
     }
 }
 
-// The text after the six lines: the pieces, nothing after them, overlaps.
-fn read_body(text: &[u8], settings: Settings, count: usize) -> LayerRead
+// Pieces that were read with nothing after them: overlaps, then the layer.
+fn judge_read(settings: Settings, count: usize, pieces: [Piece; 512]) -> LayerRead
     requires { ⌜ count ≤ 512 ⌝ }
-    ensures { λ r. ⌜ HandedBack (layerBody settings count (now (text .entry))) r ⌝ }
+    requires { ⌜ pieces ≡ inRecords (take count pieces) ⌝ }
+    ensures { λ r. ⌜ HandedBack (layerFrom settings (take count pieces)) r ⌝ }
 {
-    let found = read_pieces(text, count);
-    let answer = found.answer;
-    if let ReadAnswer::Refused(question, place) = answer {
-        return refuse(question, place);
-    }
-    if found.at < text.len() {
-        return refuse(Refusal::Form, Place::Line((count as u32) + 7));
-    }
-    let pieces = found.records;
     match judge_overlaps(pieces, count) {
-        ReadAnswer::Refused(question, place) => refuse(question, place),
+        ReadAnswer::Refused(refusal, place) => refuse(refusal, place),
         ReadAnswer::Read => LayerRead {
             answer: ReadAnswer::Read,
             settings: settings,
@@ -58,6 +51,23 @@ fn read_body(text: &[u8], settings: Settings, count: usize) -> LayerRead
             pieces: pieces,
         },
     }
+}
+
+// The text after the six lines: the pieces, nothing after them, overlaps.
+fn read_body(text: &[u8], settings: Settings, count: usize) -> LayerRead
+    requires { ⌜ count ≤ 512 ⌝ }
+    ensures { λ r. ⌜ HandedBack (readBody settings count (now (text .entry))) r ⌝ }
+{
+    let found = read_pieces(text, count);
+    let answer = found.answer;
+    if let ReadAnswer::Refused(refusal, place) = answer {
+        return refuse(refusal, place);
+    }
+    if found.bytes < text.len() {
+        return refuse(Refusal::Form, Place::Line((count as u32) + 7));
+    }
+    let pieces = found.records;
+    judge_read(settings, count, pieces)
 }
 
 // The layer that a text states, or the first refusal.
@@ -68,7 +78,7 @@ pub fn read_layer(text: &[u8]) -> LayerRead
         return refuse(Refusal::TextSize, Place::Nothing);
     }
     match read_header(text) {
-        Header::Read(settings, count, at) => read_body(&text[at..], settings, count),
-        Header::Refused(question, line) => refuse(question, Place::Line(line)),
+        HeaderAnswer::Read(settings, count, bytes) => read_body(&text[bytes..], settings, count),
+        HeaderAnswer::Refused(refusal, place) => refuse(refusal, place),
     }
 }

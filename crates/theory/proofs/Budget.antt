@@ -1,6 +1,6 @@
 -- What the budget does to a search, over any added cost and any candidates.
 -- A step is counted before the budget is used up and never after, so the steps stay within it. Two searches at budgets b₁ ≤ b₂ go the same way until the first
--- is halted; from there the first keeps its incumbent, and the second's cost can only fall (`Ahead`). Only the steps left count: a search that starts later,
+-- is stopped; from there the first keeps its incumbent, and the second's cost can only fall (`Ahead`). Only the steps left count: a search that starts later,
 -- at a budget larger by as much, does the same (`search-later`).
 use mathlib.Core.Bool.{Bool, true, false}
 use mathlib.Core.Path.{_≡_, refl, sym, ap, subst₂, _∙_}
@@ -12,7 +12,7 @@ use native.Mathlib.Omega.{arith}
 use Rattle.rules.specs.Edges.{Graph}
 use Rattle.rules.specs.Search.{added, total, firstAfter, candidates, State, state, step, hold, Next, tryMasks, searchPlaces, searchFrom}
 use Rattle.rules.proofs.Tests.{clash}
-use Rattle.theory.proofs.Search.{at-stop, at-enter, at-skip, by-tests, search-meters, tries-falls, search-falls, Halted, tries-halted, search-halted}
+use Rattle.theory.proofs.Search.{at-stop, at-enter, at-skip, by-tests, search-meters, tries-falls, search-falls, Stopped, tries-stopped, search-stopped}
 
 -- ---- The steps
 
@@ -34,17 +34,17 @@ module _ (add : List ℕ → ℕ → ℕ) (cands : List ℕ → List ℕ) (budge
 
 -- ---- A larger budget
 
--- What two searches keep, the first at the budget b and the second at one no smaller: they are at one state, or the first is halted and the second's
--- incumbent costs no more.
+-- What two searches keep, the first at the budget b and the second at one no smaller: they are at one state, or the first
+-- is stopped, and then the second's incumbent is no dearer.
 abbrev pub Ahead : ℕ → State → State → Type 0
-Ahead b x y = (x ≡ y) ⊎ (Halted b (x .steps) (x .stopped) × (y .cost ≤ x .cost))
+Ahead b x y = (x ≡ y) ⊎ (Stopped b (x .steps) (x .stopped) × (y .cost ≤ x .cost))
 
 module _ (add : List ℕ → ℕ → ℕ) (b₁ b₂ : ℕ) (le : b₁ ≤ b₂) (n₁ n₂ : Next) (falls : (p : List ℕ) (c : ℕ) (s : State) → c ≤ s .cost → n₂ p c s .cost ≤ s .cost)
     (ahead : (p : List ℕ) (c : ℕ) (s : State) → Ahead b₁ (n₁ p c s) (n₂ p c s)) where
   tries-ahead : (ms p : List ℕ) (c : ℕ) (x y : State) → Ahead b₁ x y → Ahead b₁ (tryMasks add b₁ n₁ ms p c x) (tryMasks add b₂ n₂ ms p c y)
   unfolding tryMasks
   tries-ahead [] p c x y a = a
-  tries-ahead (m ∷ ms) p c x y (inr h) = inr (rw (tries-halted add b₁ n₁ (m ∷ ms) p c x (h .0)) (h .0, le-trans (tries-falls add b₂ n₂ falls (m ∷ ms) p c y) (h .1)))
+  tries-ahead (m ∷ ms) p c x y (inr h) = inr (rw (tries-stopped add b₁ n₁ (m ∷ ms) p c x (h .0)) (h .0, le-trans (tries-falls add b₂ n₂ falls (m ∷ ms) p c y) (h .1)))
   tries-ahead (m ∷ ms) p c x y (inl e) =
       rw (← e)
       (by-tests add b₁ n₁ m ms p c x (λ r. Ahead b₁ r (tryMasks add b₂ n₂ (m ∷ ms) p c x))
@@ -53,9 +53,9 @@ module _ (add : List ℕ → ℕ → ℕ) (b₁ b₂ : ℕ) (le : b₁ ≤ b₂)
       (tries-ahead ms p c (n₁ (p ++ (m ∷ [])) (c + add p m) (step x)) (n₂ (p ++ (m ∷ [])) (c + add p m) (step x)) (ahead (p ++ (m ∷ [])) (c + add p m) (step x))))
       (λ h l. rw (at-skip add b₂ n₂ m ms p c x (omega arith) l) (tries-ahead ms p c (step x) (step x) (inl refl))))
 
--- two searches, as far as the steps and the stop go: they agree, or the first is halted
+-- two searches, as far as the steps and the stop go: they agree, or the first is stopped
 abbrev pub Abreast : ℕ → ℕ → Bool → ℕ → Bool → Type 0
-Abreast b n₁ t₁ n₂ t₂ = ((n₁ ≡ n₂) × (t₁ ≡ t₂)) ⊎ Halted b n₁ t₁
+Abreast b n₁ t₁ n₂ t₂ = ((n₁ ≡ n₂) × (t₁ ≡ t₂)) ⊎ Stopped b n₁ t₁
 
 -- What the state y at a larger budget is to the state x at the budget b.
 pub record Larger (b : ℕ) (x y : State) : Type 0 where
@@ -118,12 +118,12 @@ start K weight g k steps stopped =
     state steps stopped (total (added weight g) first) first
 
 module _ (K weight : ℕ) (g : Graph) where
-  -- halted before it, it ends where it starts
-  pub from-halted : {budget steps : ℕ} {stopped : Bool} (k : ℕ) → 0 < k → Halted budget steps stopped → searchFrom K weight budget g k steps stopped ≡ start K weight g k steps stopped
-  from-halted zero z h = absurd (not-suc-le-zero z)
-  from-halted {budget} {steps} {stopped} (suc k) z h = search-halted (added weight g) (candidates K) budget k [] 0 (start K weight g (suc k) steps stopped) h
+  -- stopped before it, it ends where it starts
+  pub from-stopped : {budget steps : ℕ} {stopped : Bool} (k : ℕ) → 0 < k → Stopped budget steps stopped → searchFrom K weight budget g k steps stopped ≡ start K weight g k steps stopped
+  from-stopped zero z h = absurd (not-suc-le-zero z)
+  from-stopped {budget} {steps} {stopped} (suc k) z h = search-stopped (added weight g) (candidates K) budget k [] 0 (start K weight g (suc k) steps stopped) h
 
-  -- two runs of it at budgets b₁ ≤ b₂, from meters that agree or with the first halted
+  -- two runs of it at budgets b₁ ≤ b₂, from meters that agree or with the first stopped
   pub from-larger : {b₁ b₂ : ℕ} → b₁ ≤ b₂ → (k : ℕ) {n₁ n₂ : ℕ} {t₁ t₂ : Bool} → Abreast b₁ n₁ t₁ n₂ t₂ → Larger b₁ (searchFrom K weight b₁ g k n₁ t₁) (searchFrom K weight b₂ g k n₂ t₂)
   from-larger {b₁} {b₂} le k {n₁} {n₂} {t₁} {t₂} a = ahead-larger (search-ahead (added weight g) (candidates K) b₁ b₂ le k [] 0 (start K weight g k n₁ t₁) (start K weight g k n₂ t₂) (go a))
     where

@@ -1,6 +1,6 @@
--- Components. A component of a list of vertices is a part of it that no edge leaves and that hangs together (`Component`); two components of a list that
--- share a member are equal. `componentOf` takes the component of the first vertex, by Reach.antt, and `components` goes on with the rest. So it cuts
--- the list, and there is no other way to do so (`Cut`, `components-cut`, `cut-only`). All else is by induction on the cut.
+-- Components. A component of a list of vertices is a part of it that no edge leaves and that is connected (`Component`); two components of a list that
+-- share a member are equal. `componentOf` takes the component of the first vertex, by Reach.antt, and `components` goes on with the rest. So it makes a
+-- partition of the list, and there is no other (`Partition`, `components-partition`, `partition-only`). All else is by induction on the partition.
 use mathlib.Core.Bool.{Bool, true, false, not, _&&_, and-comm, and-false}
 use mathlib.Core.List.{List, [], _∷_, _++_, map, flatten, List·Memᴰ, List·Memᴰ·head as here, List·Memᴰ·tail as later, List·Memᴰ·not-nil, List·Memᴰ·cases-cons, List·Memᴰ·eq-of-singleton, List·Memᴰ·append-cases, Memᴰ·cast, Memᴰ·append-left, Memᴰ·append-right}
 use mathlib.Core.Logic.{_↔_, _⊎_, inl, inr, ⊎-elim}
@@ -153,30 +153,30 @@ in-rest : (c : List ℕ) {xs : List ℕ} {u : ℕ} → u ∈ xs → (u ∈ c →
 in-rest c {u} m h = in-keep (λ u. not (occurs u c)) m (ap not (occurs-out u c .1 h))
 
 -- cs are the components of xs, each time that of the first vertex left
-pub data Cut (g : Graph) : List ℕ → List (List ℕ) → Type 0 where
-  end : Cut g [] []
-  part : {v : ℕ} {after c : List ℕ} {cs : List (List ℕ)} → Component g (v ∷ after) c → v ∈ c → Cut g (rest c (v ∷ after)) cs → Cut g (v ∷ after) (c ∷ cs)
+pub data Partition (g : Graph) : List ℕ → List (List ℕ) → Type 0 where
+  end : Partition g [] []
+  part : {v : ℕ} {after c : List ℕ} {cs : List (List ℕ)} → Component g (v ∷ after) c → v ∈ c → Partition g (rest c (v ∷ after)) cs → Partition g (v ∷ after) (c ∷ cs)
 
 rest-after : (v : ℕ) (after c : List ℕ) → v ∈ c → rest c (v ∷ after) ≡ rest c after
 rest-after v after c m =
     keep-cases (λ u. not (occurs u c)) (λ l. l ≡ rest c after) v after (λ e. clash (occurs-in v c .1 m) (not-true (occurs v c) e)) (λ e. refl)
 
-cut-for : (g : Graph) → Symmetric g → (rounds : ℕ) (xs : List ℕ) → length xs ≤ rounds → Cut g xs (componentsFor rounds g xs)
+partition-for : (g : Graph) → Symmetric g → (rounds : ℕ) (xs : List ℕ) → length xs ≤ rounds → Partition g xs (componentsFor rounds g xs)
 unfolding componentsFor
-cut-for g s zero [] h = end
-cut-for g s zero (v ∷ after) h = absurd (omega arith)
-cut-for g s (suc rounds) [] h = end
-cut-for g s (suc rounds) (v ∷ after) h =
+partition-for g s zero [] h = end
+partition-for g s zero (v ∷ after) h = absurd (omega arith)
+partition-for g s (suc rounds) [] h = end
+partition-for g s (suc rounds) (v ∷ after) h =
     let c = componentOf g v after in
     let m = component-of-in g v after in
     part (component-of g s v after) m
-    (subst (λ l. Cut g l (componentsFor rounds g (rest c after))) (sym (rest-after v after c m))
-    (cut-for g s rounds (rest c after) (omega (arith, keep-no-longer (λ u. not (occurs u c)) after))))
+    (subst (λ l. Partition g l (componentsFor rounds g (rest c after))) (sym (rest-after v after c m))
+    (partition-for g s rounds (rest c after) (omega (arith, keep-no-longer (λ u. not (occurs u c)) after))))
 
-pub components-cut : (g : Graph) → Symmetric g → (core : List ℕ) → Cut g core (components g core)
-components-cut g s core = cut-for g s (length core) core (le-refl (length core))
+pub components-partition : (g : Graph) → Symmetric g → (core : List ℕ) → Partition g core (components g core)
+components-partition g s core = partition-for g s (length core) core (le-refl (length core))
 
-only-for : {g : Graph} {xs : List ℕ} {cs : List (List ℕ)} → Symmetric g → Cut g xs cs → (rounds : ℕ) → length xs ≤ rounds → componentsFor rounds g xs ≡ cs
+only-for : {g : Graph} {xs : List ℕ} {cs : List (List ℕ)} → Symmetric g → Partition g xs cs → (rounds : ℕ) → length xs ≤ rounds → componentsFor rounds g xs ≡ cs
 unfolding componentsFor
 only-for s end zero h = refl
 only-for s end (suc rounds) h = refl
@@ -186,62 +186,62 @@ only-for {g} s (part {v = v} {after = after} {c = c} k m r) (suc rounds) h =
     ap (λ d. d ∷ componentsFor rounds g (rest d after)) (component-same (component-of g s v after) k (component-of-in g v after) m)
     ∙ ap (λ l. c ∷ l) (ap (componentsFor rounds g) (sym (rest-after v after c m)) ∙ only-for s r rounds (omega arith))
 
--- there is no other way to cut
-pub cut-only : {g : Graph} {core : List ℕ} {cs : List (List ℕ)} → Symmetric g → Cut g core cs → components g core ≡ cs
-cut-only {core} s r = only-for s r (length core) (le-refl (length core))
+-- there is no other partition
+pub partition-only : {g : Graph} {core : List ℕ} {cs : List (List ℕ)} → Symmetric g → Partition g core cs → components g core ≡ cs
+partition-only {core} s r = only-for s r (length core) (le-refl (length core))
 
 -- together they have the members of the whole
-pub cut-members : {g : Graph} {xs : List ℕ} {cs : List (List ℕ)} → Cut g xs cs → Same (flatten cs) xs
+pub partition-members : {g : Graph} {xs : List ℕ} {cs : List (List ℕ)} → Partition g xs cs → Same (flatten cs) xs
 unfolding flatten
-cut-members end u = (λ m. m, λ m. m)
-cut-members (part {v = v} {after = after} {c = c} k m r) u = (
-  λ i. ⊎-elim (component-in k) (λ j. rest-in c (v ∷ after) (cut-members r u .0 j) .0) (List·Memᴰ·append-cases c i),
-  λ i. ⊎-elim (Memᴰ·append-left _) (λ h. Memᴰ·append-right c (cut-members r u .1 (in-rest c i h))) (in-or-out u c),
+partition-members end u = (λ m. m, λ m. m)
+partition-members (part {v = v} {after = after} {c = c} k m r) u = (
+  λ i. ⊎-elim (component-in k) (λ j. rest-in c (v ∷ after) (partition-members r u .0 j) .0) (List·Memᴰ·append-cases c i),
+  λ i. ⊎-elim (Memᴰ·append-left _) (λ h. Memᴰ·append-right c (partition-members r u .1 (in-rest c i h))) (in-or-out u c),
 )
 
 -- each member has its component
-pub cut-covers : {g : Graph} {xs : List ℕ} {cs : List (List ℕ)} {u : ℕ} → Cut g xs cs → u ∈ xs → (c : List ℕ) × List·Memᴰ c cs × (u ∈ c)
-cut-covers end i = none-in i
-cut-covers {u} (part {c = c} k m r) i =
-    ⊎-elim (λ j. (c, here refl, j)) (λ h. let (d, n, j) = cut-covers r (in-rest c i h) in (d, later n, j)) (in-or-out u c)
+pub partition-covers : {g : Graph} {xs : List ℕ} {cs : List (List ℕ)} {u : ℕ} → Partition g xs cs → u ∈ xs → (c : List ℕ) × List·Memᴰ c cs × (u ∈ c)
+partition-covers end i = none-in i
+partition-covers {u} (part {c = c} k m r) i =
+    ⊎-elim (λ j. (c, here refl, j)) (λ h. let (d, n, j) = partition-covers r (in-rest c i h) in (d, later n, j)) (in-or-out u c)
 
 distinct-append : (xs ys : List ℕ) → Distinct xs → Distinct ys → ((u : ℕ) → u ∈ xs → u ∈ ys → ⊥) → Distinct (xs ++ ys)
 distinct-append [] ys d e h = e
 distinct-append (x ∷ xs) ys d e h = (λ m. ⊎-elim (d .0) (h x (here refl)) (List·Memᴰ·append-cases xs m), distinct-append xs ys (d .1) e (λ u m. h u (later m)))
 
 -- and no vertex twice
-pub cut-distinct : {g : Graph} {xs : List ℕ} {cs : List (List ℕ)} → Cut g xs cs → Distinct xs → Distinct (flatten cs)
+pub partition-distinct : {g : Graph} {xs : List ℕ} {cs : List (List ℕ)} → Partition g xs cs → Distinct xs → Distinct (flatten cs)
 unfolding flatten
-cut-distinct end d = tt
-cut-distinct (part {v = v} {after = after} {c = c} {cs = cs} k m r) d =
-    distinct-append c (flatten cs) (component-distinct k d) (cut-distinct r (distinct-keep (λ u. not (occurs u c)) (v ∷ after) d))
-    (λ u i j. rest-in c (v ∷ after) (cut-members r u .0 j) .1 i)
+partition-distinct end d = tt
+partition-distinct (part {v = v} {after = after} {c = c} {cs = cs} k m r) d =
+    distinct-append c (flatten cs) (component-distinct k d) (partition-distinct r (distinct-keep (λ u. not (occurs u c)) (v ∷ after) d))
+    (λ u i j. rest-in c (v ∷ after) (partition-members r u .0 j) .1 i)
 
 module _ {g : Graph} (s : Symmetric g) where
   -- each is a component of the whole
-  pub cut-component : {xs c : List ℕ} {cs : List (List ℕ)} → Cut g xs cs → List·Memᴰ c cs → Component g xs c
-  cut-component end i = absurd (List·Memᴰ·not-nil i)
-  cut-component (part k m r) i =
+  pub partition-component : {xs c : List ℕ} {cs : List (List ℕ)} → Partition g xs cs → List·Memᴰ c cs → Component g xs c
+  partition-component end i = absurd (List·Memᴰ·not-nil i)
+  partition-component (part k m r) i =
       ⊎-elim
       (λ e. rw e k)
-      (λ j. component-wider (others-apart k s) (cut-component r j))
+      (λ j. component-wider (others-apart k s) (partition-component r j))
       (List·Memᴰ·cases-cons i)
 
   -- and each component of the whole is there
-  pub cut-listed : {xs d : List ℕ} {cs : List (List ℕ)} → Cut g xs cs → Component g xs d → List·Memᴰ d cs
-  cut-listed end l = let (u, i) = l .member in none-in (component-in l i)
-  cut-listed (part {c = c} k m r) l =
+  pub partition-listed : {xs d : List ℕ} {cs : List (List ℕ)} → Partition g xs cs → Component g xs d → List·Memᴰ d cs
+  partition-listed end l = let (u, i) = l .member in none-in (component-in l i)
+  partition-listed (part {c = c} k m r) l =
       let (u, i) = l .member in
       ⊎-elim
       (λ j. here (component-same l k i j))
-      (λ h. later (cut-listed r (component-narrower (others-apart k s) l i (ap not (occurs-out u c .1 h)))))
+      (λ h. later (partition-listed r (component-narrower (others-apart k s) l i (ap not (occurs-out u c .1 h)))))
       (in-or-out u c)
 
   -- no edge joins two of them
-  pub cut-apart : {xs c d : List ℕ} {cs : List (List ℕ)} {u w : ℕ} → Cut g xs cs → List·Memᴰ c cs → List·Memᴰ d cs → u ∈ c → w ∈ d → joined g u w ≡ true → c ≡ d
-  cut-apart {c} {u} {w} r i j m n e =
-      let k = cut-component r i in
-      let l = cut-component r j in
+  pub partition-apart : {xs c d : List ℕ} {cs : List (List ℕ)} {u w : ℕ} → Partition g xs cs → List·Memᴰ c cs → List·Memᴰ d cs → u ∈ c → w ∈ d → joined g u w ≡ true → c ≡ d
+  partition-apart {c} {u} {w} r i j m n e =
+      let k = partition-component r i in
+      let l = partition-component r j in
       ⊎-elim
       (λ p. component-same k l p n)
       (λ h. clash e (k .closed u w m (component-in l n) h))
@@ -249,7 +249,7 @@ module _ {g : Graph} (s : Symmetric g) where
 
 -- the components are the lists that are components
 pub components-are : (g : Graph) → Symmetric g → (core c : List ℕ) → List·Memᴰ c (components g core) ↔ Component g core c
-components-are g s core c = (cut-component s (components-cut g s core), cut-listed s (components-cut g s core))
+components-are g s core c = (partition-component s (components-partition g s core), partition-listed s (components-partition g s core))
 
 -- ---- Their lowest vertices
 
@@ -259,16 +259,16 @@ lowest c = getD c 0 0
 lowest-head : {g : Graph} {v : ℕ} {after c : List ℕ} → Component g (v ∷ after) c → v ∈ c → lowest c ≡ v
 lowest-head k m = ap lowest (component-head k m)
 
-lowest-in : {g : Graph} {xs : List ℕ} {cs : List (List ℕ)} {u : ℕ} → Cut g xs cs → u ∈ map lowest cs → u ∈ xs
+lowest-in : {g : Graph} {xs : List ℕ} {cs : List (List ℕ)} {u : ℕ} → Partition g xs cs → u ∈ map lowest cs → u ∈ xs
 lowest-in end i = i
 lowest-in (part {v = v} {after = after} {c = c} k m r) i =
     ⊎-elim (λ e. here (e ∙ lowest-head k m)) (λ j. rest-in c (v ∷ after) (lowest-in r j) .0) (List·Memᴰ·cases-cons i)
 
-pub cut-rising : {g : Graph} {xs : List ℕ} {cs : List (List ℕ)} → Cut g xs cs → Rising xs → Rising (map lowest cs)
-cut-rising end h = tt
-cut-rising (part {v = v} {after = after} {c = c} k m r) h = (
+pub partition-rising : {g : Graph} {xs : List ℕ} {cs : List (List ℕ)} → Partition g xs cs → Rising xs → Rising (map lowest cs)
+partition-rising end h = tt
+partition-rising (part {v = v} {after = after} {c = c} k m r) h = (
   λ u i. rw (lowest-head k m) (h .0 u (rest-in c after (subst (λ l. u ∈ l) (rest-after v after c m) (lowest-in r i)) .0)),
-  cut-rising r (rising-keep (λ u. not (occurs u c)) (v ∷ after) h),
+  partition-rising r (rising-keep (λ u. not (occurs u c)) (v ∷ after) h),
 )
 
 -- ---- Sums
@@ -281,13 +281,13 @@ sumParts F (c ∷ cs) = F c + sumParts F cs
 module _ {g : Graph} (F : List ℕ → ℕ) (empty : F [] ≡ 0)
     (split : (f : ℕ → Bool) (xs : List ℕ) → ((u w : ℕ) → u ∈ keep f xs → w ∈ keep (λ u. not (f u)) xs → joined g u w ≡ false)
     → F xs ≡ F (keep f xs) + F (keep (λ u. not (f u)) xs)) where
-  pub cut-sum : {xs : List ℕ} {cs : List (List ℕ)} → Cut g xs cs → F xs ≡ sumParts F cs
+  pub partition-sum : {xs : List ℕ} {cs : List (List ℕ)} → Partition g xs cs → F xs ≡ sumParts F cs
   unfolding sumParts
-  cut-sum end = empty
-  cut-sum (part {v = v} {after = after} {c = c} k m r) =
+  partition-sum end = empty
+  partition-sum (part {v = v} {after = after} {c = c} k m r) =
       split (λ u. occurs u c) (v ∷ after)
       (λ u w i j. let n = rest-in c (v ∷ after) j in k .closed u w (subst (λ l. u ∈ l) (k .kept) i) (n .0) (n .1))
-      ∙ ap₂ (λ (a b : ℕ). a + b) (ap F (k .kept)) (cut-sum r)
+      ∙ ap₂ (λ (a b : ℕ). a + b) (ap F (k .kept)) (partition-sum r)
 
 -- ---- The components of two parts that no edge joins
 
@@ -300,28 +300,28 @@ keepParts f [] = []
 keepParts f (c ∷ cs) = elim (f (lowest c)) [ true ↦ c ∷ keepParts f cs | false ↦ keepParts f cs ]
 
 -- the components of such a part are those of the whole that begin in it, in their order
-pub cut-keep : {g : Graph} {xs : List ℕ} {cs : List (List ℕ)} → Symmetric g → (f : ℕ → Bool) → Apart g f xs → Cut g xs cs → Cut g (keep f xs) (keepParts f cs)
+pub partition-keep : {g : Graph} {xs : List ℕ} {cs : List (List ℕ)} → Symmetric g → (f : ℕ → Bool) → Apart g f xs → Partition g xs cs → Partition g (keep f xs) (keepParts f cs)
 unfolding keepParts keep
-cut-keep s f a end = end
-cut-keep {g} s f a (part {v = v} {after = after} {c = c} {cs = cs} k m r) =
+partition-keep s f a end = end
+partition-keep {g} s f a (part {v = v} {after = after} {c = c} {cs = cs} k m r) =
     let xs = v ∷ after in
-    let inner = cut-keep s f (λ u w i p j q. a u w (rest-in c xs i .0) p (rest-in c xs j .0) q) r in
+    let inner = partition-keep s f (λ u w i p j q. a u w (rest-in c xs i .0) p (rest-in c xs j .0) q) r in
     by-test (f v)
     (λ p. rw (ap f (lowest-head k m) ∙ p, keepParts)
-    (keep-cases f (λ l. Component g l c → Cut g (rest c l) (keepParts f cs) → Cut g l (c ∷ keepParts f cs)) v after
+    (keep-cases f (λ l. Component g l c → Partition g (rest c l) (keepParts f cs) → Partition g l (c ∷ keepParts f cs)) v after
     (λ _ narrower left. part narrower m left)
     (λ q. clash p q)
     (component-narrower a k m p)
-    (subst (λ l. Cut g l (keepParts f cs)) (keep-comm f (λ u. not (occurs u c)) xs) inner)))
+    (subst (λ l. Partition g l (keepParts f cs)) (keep-comm f (λ u. not (occurs u c)) xs) inner)))
     (λ p. rw (ap f (lowest-head k m) ∙ p, keepParts)
-    (subst (λ l. Cut g l (keepParts f cs))
+    (subst (λ l. Partition g l (keepParts f cs))
     (keep-keep f (λ u. not (occurs u c)) xs ∙ keep-same (λ u. not (occurs u c) && f u) f xs (λ u _. by-test (occurs u c)
     (λ e. rw (e, not-true (f u) (component-stays k (apart-not g f xs s a) m (occurs-in u c .0 e) (ap not p))))
     (λ e. rw e)))
     inner))
 
 pub components-keep : (g : Graph) → Symmetric g → (f : ℕ → Bool) (core : List ℕ) → Apart g f core → components g (keep f core) ≡ keepParts f (components g core)
-components-keep g s f core a = cut-only s (cut-keep s f a (components-cut g s core))
+components-keep g s f core a = partition-only s (partition-keep s f a (components-partition g s core))
 
 -- so a list is a component of the whole exactly if it is one of the one part or of the other
 pub components-either : (g : Graph) → Symmetric g → (f : ℕ → Bool) (core : List ℕ) → Apart g f core → (d : List ℕ)

@@ -1,10 +1,10 @@
 -- The whole decomposition on a list of vertices. Putting back adds no cost to the core's, the core's cost is the sum of its components', and that is the
 -- incumbents' costs together (`decomposed`). A rival costs at least what it costs on the core, which splits into the same components, so searches
 -- that were not stopped are cheapest on the whole list (`decompose-cheapest`). Two budgets have the same core and the same components, so they compare as
--- their searches do (`decompose-larger`).
+-- their searches do (`larger-same`, `larger-no-dearer`), and so do a budget and none (`decompose-follows`).
 use mathlib.Core.Bool.{true, false}
 use mathlib.Core.List.{List, List·Memᴰ}
-use mathlib.Core.Logic.{inl}
+use mathlib.Core.Logic.{inl, inr, ⊎-elim}
 use mathlib.Core.Path.{_≡_, refl, ap, _∙_}
 use Prim.Native.Nat.{ℕ, _≤_, _<_}
 use native.Mathlib.Omega.{arith}
@@ -13,16 +13,16 @@ use Rattle.rules.specs.Edges.{Graph}
 use Rattle.rules.specs.Score.{maskOf}
 use Rattle.rules.specs.Peeling.{peel}
 use Rattle.rules.specs.Components.{components}
-use Rattle.rules.specs.Decomposition.{Reached, putBackAll, searchAll, decompose}
+use Rattle.rules.specs.Decomposition.{Reached, searchAll, withReturned, decompose, complete}
 use Rattle.rules.proofs.Edges.{Undirected, joined-sym}
 use Rattle.rules.proofs.Lists.{_∈_}
 use Rattle.rules.proofs.Tests.{clash}
 use Rattle.theory.proofs.Cost.{costIn, cost-part, cost-apart}
 use Rattle.theory.proofs.Peeling.{parts}
 use Rattle.theory.proofs.PuttingBack.{Ready, returned}
-use Rattle.theory.proofs.Components.{Cut, components-cut, component-in, cut-component, cut-sum, sumParts}
+use Rattle.theory.proofs.Components.{Partition, components-partition, component-in, partition-component, partition-sum, sumParts}
 use Rattle.theory.proofs.Reach.{Symmetric}
-use Rattle.theory.proofs.SearchAll.{costsOf, Settled, settled, all-cheapest, all-within, all-spent, Compared, all-larger}
+use Rattle.theory.proofs.SearchAll.{costsOf, Settled, settled, all-cheapest, all-within, all-spent, Compared, all-larger, FollowsAll, all-follows}
 
 -- nothing is searched yet
 abbrev pub unsearched : List ℕ → Reached
@@ -30,6 +30,10 @@ unsearched masks = record { steps = 0; stopped = false; masks = masks }
 
 abbrev pub core : ℕ → Graph → List ℕ → List ℕ
 core K g vs = peel K g vs .core
+
+-- what is reached when removed vertices are back
+abbrev finished : ℕ → Graph → List ℕ → Reached → Reached
+finished K g vs s = record { steps = s .steps; stopped = s .stopped; masks = withReturned K g (peel K g vs) (s .masks) }
 
 -- what the incumbents of all components cost together
 abbrev pub incumbentsCost : ℕ → ℕ → ℕ → Graph → List ℕ → List ℕ → ℕ
@@ -46,19 +50,19 @@ module _ (K W : ℕ) (pos : 0 < K) {g : Graph} (undirected : Undirected g) {vs m
   symmetric : Symmetric g
   symmetric = joined-sym undirected
 
-  cut : Cut g (core K g vs) (components g (core K g vs))
-  cut = components-cut g symmetric (core K g vs)
+  partition : Partition g (core K g vs) (components g (core K g vs))
+  partition = components-partition g symmetric (core K g vs)
 
   -- the core costs what its components cost together
   core-cost : (a : ℕ → ℕ) → costIn W g a (core K g vs) ≡ sumParts (costIn W g a) (components g (core K g vs))
   unfolding costIn
-  core-cost a = cut-sum (costIn W g a) refl (cost-apart W undirected a) cut
+  core-cost a = partition-sum (costIn W g a) refl (cost-apart W undirected a) partition
 
   module _ (budget : ℕ) where
     searched : Settled K W g budget (core K g vs) (components g (core K g vs)) (unsearched masks) (searchAll K W budget g (components g (core K g vs)) (unsearched masks))
     searched =
         let p = parts K g (length vs) vs in
-        settled K W pos undirected budget cut (p .distinct (ready .distinct)) (unsearched masks) (λ u m. ready .placed u (p .core-in u m))
+        settled K W pos undirected budget partition (p .distinct (ready .distinct)) (unsearched masks) (λ u m. ready .placed u (p .core-in u m))
 
     pub decomposed : Decomposed K W budget g vs masks (decompose K W budget g vs masks)
     unfolding decompose
@@ -82,7 +86,7 @@ module _ (K W : ℕ) (pos : 0 < K) {g : Graph} (undirected : Undirected g) {vs m
         let p = parts K g (length vs) vs in
         let cs = components g (core K g vs) in
         let inside : (c : List ℕ) → List·Memᴰ c cs → (u : ℕ) → u ∈ c → a u < K
-        = λ c m u i. l u (p .core-in u (component-in (cut-component symmetric cut m) i)) in
+        = λ c m u i. l u (p .core-in u (component-in (partition-component symmetric partition m) i)) in
         let part : costIn W g a (core K g vs) ≤ costIn W g a vs = rw (p .kept) (cost-part W undirected a _ vs) in
         omega (arith, decomposed .cost, all-cheapest K W pos undirected budget cs (unsearched masks) e a inside, core-cost a)
 
@@ -108,12 +112,14 @@ module _ (K W : ℕ) (pos : 0 < K) {g : Graph} (undirected : Undirected g) {vs m
     -- it does the same where the smaller one was not used up
     pub larger-same : decompose K W b₁ g vs masks .stopped ≡ false → decompose K W b₂ g vs masks ≡ decompose K W b₁ g vs masks
     unfolding decompose
-    larger-same e =
-        ap (λ (s : Reached). finished s) (compared .same e refl)
-      where
-        finished : Reached → Reached
-        finished s = record {
-          steps = s .steps;
-          stopped = s .stopped;
-          masks = putBackAll K g (peel K g vs .removed) (record { there = core K g vs; masks = s .masks }) .masks;
-        }
+    larger-same e = ap (finished K g vs) (compared .same e refl)
+
+-- A budget and none: they have the same core and the same components.
+module _ (K W budget : ℕ) (g : Graph) (vs masks : List ℕ) where
+  pub decompose-follows : FollowsAll budget (decompose K W budget g vs masks) (complete K W g vs masks)
+  unfolding decompose complete
+  decompose-follows =
+      ⊎-elim
+      (λ e. inl (e .0, ap (finished K g vs) (e .1)))
+      (λ s. inr s)
+      (all-follows K W g budget (components g (core K g vs)) (unsearched masks) (record { steps = 0; masks = masks }) (inl (omega arith, refl)))

@@ -1,10 +1,11 @@
 -- Demand 3 as a theorem of the rules. The laws of the decomposition hold of the graph of any valid layer, whose edges have no direction and join no piece to
--- itself; the score of masks is their cost among all pieces; and settings that are alike but for the budget have one graph.
+-- itself; the score of masks is their cost among all pieces; and settings that are alike but for the budget have one graph. That a run is the search without
+-- a budget as far as its budget goes holds of every layer.
 use mathlib.Core.Bool.{Bool, true, false}
 use mathlib.Core.List.{List}
-use mathlib.Core.Logic.{_↔_}
-use mathlib.Core.Path.{_≡_, refl, sym, _∙_}
-use Prim.Native.Nat.{ℕ, _≤_, _<_}
+use mathlib.Core.Logic.{_↔_, Iff·trans}
+use mathlib.Core.Path.{_≡_, refl, sym, ap, _∙_}
+use Prim.Native.Nat.{ℕ, _≤_, _<_, min}
 use native.Mathlib.Omega.{arith}
 use lib.ListN.{length, replicate, length-replicate}
 use Rattle.rules.specs.declared.layer.Settings.{Settings}
@@ -14,9 +15,9 @@ use Rattle.rules.specs.Basics.{upTo, given}
 use Rattle.rules.specs.Settings.{pieceAt}
 use Rattle.rules.specs.Edges.{Graph, conflictEdge, stitchEdge, graphOf}
 use Rattle.rules.specs.Score.{maskOf, scoreOf}
-use Rattle.rules.specs.Decomposition.{Reached, decompose, reached, verdictOf, Run, run}
+use Rattle.rules.specs.Decomposition.{Reached, decompose, reached, Completed, complete, completed, stepsInAll, verdictOf, Run, run}
 use Rattle.rules.specs.Questions.{Valid}
-use Rattle.rules.specs.Demands.{Alike, Assignment, assignmentCost, OneRun, Demand3}
+use Rattle.rules.specs.Demands.{Alike, Assignment, assignmentCost, EndsWithin, OneRun, Demand3}
 use Rattle.rules.proofs.Ranges.{settings-facts}
 use Rattle.rules.proofs.Validity.{valid-sound}
 use Rattle.rules.proofs.Edges.{undirected, loopless}
@@ -25,7 +26,8 @@ use Rattle.rules.proofs.Tests.{clash}
 use Rattle.theory.proofs.Cost.{costIn}
 use Rattle.theory.proofs.Score.{score-cost}
 use Rattle.theory.proofs.PuttingBack.{Ready}
-use Rattle.theory.proofs.Decomposition.{decomposed, decompose-cheapest, larger-no-dearer, larger-same}
+use Rattle.theory.proofs.SearchAll.{unstopped, FollowsAll, follows-steps, follows-stopped, follows-ended, follows-same}
+use Rattle.theory.proofs.Decomposition.{decomposed, decompose-cheapest, larger-no-dearer, larger-same, decompose-follows}
 
 -- there is a mask
 masks-above-0 : (s : Settings) (ps : List Piece) → Valid s ps → 0 < s .masks
@@ -54,6 +56,38 @@ best-iff : (b : Bool) → (verdictOf b ≡ Verdict.Best) ↔ (b ≡ false)
 best-iff false = (λ _. refl, λ _. refl)
 best-iff true = (λ e. let z : _≡_ {A = ℕ} 0 1 = cc in absurd (omega arith), λ e. clash refl e)
 
+open-iff : (b : Bool) → (verdictOf b ≡ Verdict.Open) ↔ (b ≡ true)
+open-iff false = (λ e. let z : _≡_ {A = ℕ} 0 1 = cc in absurd (omega arith), λ e. clash e refl)
+open-iff true = (λ _. refl, λ _. refl)
+
+-- ---- A run and the search without a budget, on any layer
+
+module _ (s : Settings) (ps : List Piece) where
+  pub reached-follows : FollowsAll (s .budget) (reached s ps) (completed s ps)
+  reached-follows = decompose-follows (s .masks) (s .weight) (s .budget) (graphOf s ps) (upTo (length ps)) (replicate (length ps) 0)
+
+  -- the steps of a run are those in all, or the budget if that is less
+  pub run-steps : run s ps .steps ≡ min (stepsInAll s ps) (s .budget)
+  unfolding run
+  run-steps = follows-steps reached-follows
+
+  -- a run is stopped exactly when the budget is less than the steps in all
+  pub run-stopped : (reached s ps .stopped ≡ true) ↔ (s .budget < stepsInAll s ps)
+  run-stopped = follows-stopped reached-follows
+
+  pub run-open : (run s ps .verdict ≡ Verdict.Open) ↔ (s .budget < stepsInAll s ps)
+  unfolding run
+  run-open = Iff·trans (open-iff (reached s ps .stopped)) run-stopped
+
+  -- it says best exactly when the search ends within the budget
+  pub run-best : (run s ps .verdict ≡ Verdict.Best) ↔ EndsWithin s ps
+  unfolding run
+  run-best = Iff·trans (best-iff (reached s ps .stopped)) (follows-ended reached-follows)
+
+  -- and then all is as without a budget
+  pub run-ended : EndsWithin s ps → reached s ps ≡ unstopped (completed s ps)
+  run-ended = follows-same reached-follows
+
 -- one run on a valid layer
 pub one-run : (s : Settings) (ps : List Piece) → Valid s ps → OneRun s ps (run s ps)
 unfolding run
@@ -69,7 +103,9 @@ one-run s ps valid =
         size = d .size ∙ length-replicate {A = ℕ} (length ps) 0;
         below = λ i h. d .below i (in-upTo (length ps) i .1 h);
       };
-      best = best-iff (reached s ps .stopped);
+      best = run-best s ps;
+      spent = run-steps s ps;
+      ended = λ e. ap (λ (r : Reached). r .masks) (run-ended s ps e);
     }
 
 module _ {s₁ s₂ : Settings} (alike : Alike s₁ s₂) (ps : List Piece) where
@@ -97,6 +133,13 @@ module _ {s₁ s₂ : Settings} (alike : Alike s₁ s₂) (ps : List Piece) wher
   -- what the second settings reach, on the first settings' graph
   second : reached s₂ ps ≡ decompose (s₁ .masks) (s₁ .weight) (s₂ .budget) (graphOf s₁ ps) (upTo (length ps)) (replicate (length ps) 0)
   second = λ i. decompose (alike-masks i) (alike-weight i) (s₂ .budget) (graph-same i) (upTo (length ps)) (replicate (length ps) 0)
+
+  -- the search without a budget is the same, and takes the same steps
+  pub completed-same : completed s₂ ps ≡ completed s₁ ps
+  completed-same = λ i. complete (alike-masks i) (alike-weight i) (graph-same i) (upTo (length ps)) (replicate (length ps) 0)
+
+  pub steps-same : stepsInAll s₂ ps ≡ stepsInAll s₁ ps
+  steps-same = ap (λ (c : Completed). c .steps) completed-same
 
   module _ (valid₁ : Valid s₁ ps) (valid₂ : Valid s₂ ps) where
     pos : 0 < s₁ .masks

@@ -8,7 +8,9 @@ pub mod Reach
 pub mod Components
 pub mod Search
 pub mod Budget
+pub mod Complete
 pub mod Renaming
 pub mod SearchAll
 pub mod Decomposition
 pub mod Demand3
+pub mod Results

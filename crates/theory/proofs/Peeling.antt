@@ -13,14 +13,14 @@ use lib.ListN.{length}
 use borrow.Author.Tests.{not-true}
 use Rattle.rules.specs.Basics.{anyOf, keep, find, occurs, without}
 use Rattle.rules.specs.Edges.{Graph}
-use Rattle.rules.specs.Peeling.{Removal, low, hanging, Peeled, mayGo, lowDegree, removalOf, peelFor}
+use Rattle.rules.specs.Peeling.{Removal, low, pendant, Peeled, mayGo, lowDegree, removalOf, peelFor}
 use Rattle.rules.proofs.Lists.{_∈_, equal-in, none-in, each-cons, occurs-in, keep-same, keep-all, keep-keep, keep-in, in-keep, without-in, First, first-in, find-first, Distinct, Rising, distinct-keep, rising-keep, without-shorter}
 use Rattle.rules.proofs.Tests.{by-test, clash, eqb-sym}
 
 -- the vertex that was removed, and all of them in their order
 abbrev pub vertexOf : Removal → ℕ
 vertexOf (low v) = v
-vertexOf (hanging v u) = v
+vertexOf (pendant v u) = v
 
 abbrev pub gone : Peeled → List ℕ
 gone p = map vertexOf (p .removed)

@@ -1,4 +1,4 @@
--- Putting back costs nothing. Those present when a vertex returns are exactly those that were there when it was removed, so what its removal asked of
+-- Putting back costs nothing. A vertex returns to the same vertices that it left, so what its removal asked of
 -- them still holds. A vertex removed by (A) has fewer conflict neighbours among them than there are masks, so some mask is free (pigeonhole), and no
 -- stitch neighbour; one removed by (B) has no conflict neighbour, and takes the mask of its only stitch neighbour. Either way its mask costs
 -- nothing against those present (`Fits`), and one round of putting back keeps all that is claimed (`one-back`); peeling's induction does the rest.
@@ -16,7 +16,7 @@ use borrow.Author.Tests.{eqb-true, eq-eqb, ltb-true, not-true, not-false}
 use Rattle.rules.specs.Basics.{upTo, anyOf, keep, find, foundOr, without}
 use Rattle.rules.specs.Edges.{Graph, inConflict, inStitch, joined}
 use Rattle.rules.specs.Score.{maskOf, pairCost}
-use Rattle.rules.specs.Peeling.{conflictDegree, stitchDegree, lowDegree, pendant, mayGo, removalOf, Peeled, peelFor}
+use Rattle.rules.specs.Peeling.{conflictDegree, stitchDegree, lowDegree, isPendant, mayGo, removalOf, Peeled, peelFor}
 use Rattle.rules.specs.Decomposition.{Placed, freeMask, putBack, putBackAll}
 use Rattle.rules.proofs.Edges.{Undirected}
 use Rattle.rules.proofs.Lists.{_∈_, here, later, here-or-later, equal-in, any-in, any-out, in-keep, in-upTo, in-without, without-in, without-or, first-in, find-first, find-none, Distinct, Same, distinct-without, length-keep, count-none, none-count, count-two, pigeonhole}
@@ -100,12 +100,12 @@ module _ (K : ℕ) {g : Graph} (undirected : Undirected g) (v : ℕ) (there : Li
             }
 
   -- the stitch neighbour's mask of a (B) vertex
-  module _ (isPendant : pendant g there v ≡ true) (loopless : joined g v v ≡ false) (a : ℕ → ℕ) where
-    hanging-fits : Fits K g (without v there) a v (a (foundOr v (find (inStitch g v) there)))
-    hanging-fits = step (find (inStitch g v) there) refl
+  module _ (hasOne : isPendant g there v ≡ true) (loopless : joined g v v ≡ false) (a : ℕ → ℕ) where
+    pendant-fits : Fits K g (without v there) a v (a (foundOr v (find (inStitch g v) there)))
+    pendant-fits = step (find (inStitch g v) there) refl
       where
         degrees : (eqb (conflictDegree g there v) 0 ≡ true) × (eqb (stitchDegree g there v) 1 ≡ true)
-        degrees = and-eq-true-iff (eqb (conflictDegree g there v) 0) (eqb (stitchDegree g there v) 1) .0 isPendant
+        degrees = and-eq-true-iff (eqb (conflictDegree g there v) 0) (eqb (stitchDegree g there v) 1) .0 hasOne
 
         one : stitchDegree g there v ≡ 1
         one = eqb-true (stitchDegree g there v) 1 (degrees .1)
@@ -132,7 +132,7 @@ module _ (K : ℕ) {g : Graph} (undirected : Undirected g) (v : ℕ) (there : Li
   takes b present goes loop =
       by-test (lowDegree K g there v)
       (λ e. (freeMask K g b v, free-fits e b present, rw e))
-      (λ e. (maskOf (b .masks) (foundOr v (find (inStitch g v) there)), hanging-fits (rw (e, mayGo) at goes) loop (maskOf (b .masks)), rw e))
+      (λ e. (maskOf (b .masks) (foundOr v (find (inStitch g v) there)), pendant-fits (rw (e, mayGo) at goes) loop (maskOf (b .masks)), rw e))
 
   -- one vertex returns
   one-back : {core masks : List ℕ} {b : Placed} {m : ℕ} → v ∈ there → Distinct there → v < length masks → ((u : ℕ) → u ∈ core → u ∈ without v there)

@@ -175,16 +175,16 @@ module _ (K weight : ℕ) (g : Graph) where
 -- ---- The search of a component
 
 -- what it holds, whatever the budget: k masks below K, and their cost
-pub record Sound (K weight : ℕ) (g : Graph) (k : ℕ) (s : State) : Type 0 where
+pub record Feasible (K weight : ℕ) (g : Graph) (k : ℕ) (s : State) : Type 0 where
   pub size : length (s .incumbent) ≡ k
   pub below : Each (λ m. m < K) (s .incumbent)
   pub cost : Priced (added weight g) s
 
 module _ (K weight : ℕ) (g : Graph) (budget k steps : ℕ) (stopped : Bool) where
   -- it starts so, from the first assignment, and stays so
-  pub from-sound : 0 < K → Sound K weight g k (searchFrom K weight budget g k steps stopped)
+  pub from-feasible : 0 < K → Feasible K weight g k (searchFrom K weight budget g k steps stopped)
   unfolding totalAfter
-  from-sound h =
+  from-feasible h =
       let add = added weight g in
       let s = start K weight g k steps stopped in
       record {

@@ -134,23 +134,23 @@ module _ (add : List ℕ → ℕ → ℕ) (cands : List ℕ → List ℕ) (budge
   search-falls zero p c s h = h
   search-falls (suc k) p c s h = tries-falls add budget (searchPlaces add cands budget k) (search-falls k) (cands p) p c s
 
--- ---- A halted search
+-- ---- A stopped search
 
 -- a step was due beyond the budget, so none is taken any more
-pub record Halted (budget steps : ℕ) (stopped : Bool) : Type 0 where
+pub record Stopped (budget steps : ℕ) (stopped : Bool) : Type 0 where
   pub over : stopped ≡ true
   pub spent : budget ≤ steps
 
--- a halted state is the last, whatever masks are left
-pub tries-halted : (add : List ℕ → ℕ → ℕ) (budget : ℕ) (next : Next) (ms p : List ℕ) (c : ℕ) (s : State) → Halted budget (s .steps) (s .stopped) → tryMasks add budget next ms p c s ≡ s
+-- a stopped state is the last, whatever masks are left
+pub tries-stopped : (add : List ℕ → ℕ → ℕ) (budget : ℕ) (next : Next) (ms p : List ℕ) (c : ℕ) (s : State) → Stopped budget (s .steps) (s .stopped) → tryMasks add budget next ms p c s ≡ s
 unfolding tryMasks
-tries-halted add budget next [] p c s h = refl
-tries-halted add budget next (m ∷ ms) p c s h = at-stop add budget next m ms p c s (h .spent) ∙ ap (λ (b : Bool). state (s .steps) b (s .cost) (s .incumbent)) (sym (h .over))
+tries-stopped add budget next [] p c s h = refl
+tries-stopped add budget next (m ∷ ms) p c s h = at-stop add budget next m ms p c s (h .spent) ∙ ap (λ (b : Bool). state (s .steps) b (s .cost) (s .incumbent)) (sym (h .over))
 
 -- with a place left, the search returns it as it is
-pub search-halted : (add : List ℕ → ℕ → ℕ) (cands : List ℕ → List ℕ) (budget k : ℕ) (p : List ℕ) (c : ℕ) (s : State) → Halted budget (s .steps) (s .stopped) → searchPlaces add cands budget (suc k) p c s ≡ s
+pub search-stopped : (add : List ℕ → ℕ → ℕ) (cands : List ℕ → List ℕ) (budget k : ℕ) (p : List ℕ) (c : ℕ) (s : State) → Stopped budget (s .steps) (s .stopped) → searchPlaces add cands budget (suc k) p c s ≡ s
 unfolding searchPlaces
-search-halted add cands budget k p c s = tries-halted add budget (searchPlaces add cands budget k) (cands p) p c s
+search-stopped add cands budget k p c s = tries-stopped add budget (searchPlaces add cands budget k) (cands p) p c s
 
 -- ---- A search that was not stopped
 

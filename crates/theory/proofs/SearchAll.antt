@@ -1,20 +1,22 @@
 -- The searches of all components, one after the other, with the steps carried along. A component's masks are put down at its own vertices, which no other
 -- component has, so the masks reached cost what the incumbents cost together (`settled`). Searches that were not stopped leave no cheaper
 -- masks (`all-cheapest`), because each component's search does. Two budgets are compared one component after the other (`all-larger`): as long
--- as the smaller one is not used up both do the same, and from then on the smaller one's components keep their first assignments.
+-- as the smaller one is not used up both do the same, and from then on the smaller one's components keep their first assignments. A budget and none are
+-- compared likewise (`all-follows`).
 use mathlib.Core.Bool.{true, false, not}
 use mathlib.Core.List.{List, [], _∷_, map, List·Memᴰ, List·Memᴰ·head as here, List·Memᴰ·tail as later}
-use mathlib.Core.Logic.{⊎-elim}
+use mathlib.Core.Logic.{_↔_, _⊎_, inl, inr, ⊎-elim}
 use mathlib.Core.Path.{_≡_, refl, sym, ap, ap₂, _∙_}
-use Prim.Native.Nat.{ℕ, _+_, _≤_, _<_}
+use Prim.Native.Nat.{ℕ, _+_, _≤_, _<_, min}
 use native.Mathlib.Nat.{le-refl, add-le-add}
+use native.Mathlib.Omega.{arith}
 use lib.ListN.{length, length-map}
 use borrow.Author.Tests.{not-true}
 use Rattle.rules.specs.Basics.{occurs}
 use Rattle.rules.specs.Edges.{Graph}
 use Rattle.rules.specs.Score.{maskOf}
-use Rattle.rules.specs.Search.{State, localGraph, searchFrom}
-use Rattle.rules.specs.Decomposition.{Reached, putMasks, searchAll}
+use Rattle.rules.specs.Search.{State, localGraph, searchFrom, completeFrom}
+use Rattle.rules.specs.Decomposition.{Reached, Completed, putMasks, searchAll, completeAll}
 use Rattle.rules.proofs.Edges.{Undirected}
 use Rattle.rules.proofs.Tests.{not-before}
 use Rattle.theory.proofs.Each.{each-image, image-each}
@@ -22,10 +24,11 @@ use Rattle.rules.proofs.Lists.{_∈_, none-in, occurs-in, occurs-out, in-or-out
 use Rattle.rules.proofs.Tests.{clash}
 use Rattle.theory.proofs.Cost.{costIn, cost-same}
 use Rattle.theory.proofs.Score.{total-cost, put-length, put-other, put-own, put-cost}
-use Rattle.theory.proofs.Components.{component-in, component-distinct, Cut, end, part, sumParts}
+use Rattle.theory.proofs.Components.{component-in, component-distinct, Partition, end, part, sumParts}
 use Rattle.theory.proofs.Search.{search-sticks}
 use Rattle.theory.proofs.Budget.{Abreast, from-larger, search-within, search-spent}
-use Rattle.theory.proofs.Renaming.{from-sound, from-cheapest}
+use Rattle.theory.proofs.Complete.{Short, from-follows}
+use Rattle.theory.proofs.Renaming.{from-feasible, from-cheapest}
 
 reached-path : {x y : Reached} → x .steps ≡ y .steps → x .stopped ≡ y .stopped → x .masks ≡ y .masks → x ≡ y
 reached-path p q r = λ i. record { steps = p i; stopped = q i; masks = r i }
@@ -62,7 +65,7 @@ module _ (K W : ℕ) (g : Graph) (budget : ℕ) where
   all-spent (order ∷ orders) w h s =
       all-spent orders (after order w) (search-within _ _ budget (length order) [] 0 _ h) (search-spent _ _ budget (length order) [] 0 _ h s)
 
--- What is reached on the vertices xs, cut into the components cs.
+-- What is reached on the vertices xs with the components cs.
 pub record Settled (K W : ℕ) (g : Graph) (budget : ℕ) (xs : List ℕ) (cs : List (List ℕ)) (w r : Reached) : Type 0 where
   pub size : length (r .masks) ≡ length (w .masks)
   pub outside : (u : ℕ) → (u ∈ xs → ⊥) → maskOf (r .masks) u ≡ maskOf (w .masks) u
@@ -70,16 +73,16 @@ pub record Settled (K W : ℕ) (g : Graph) (budget : ℕ) (xs : List ℕ) (cs : 
   pub cost : sumParts (costIn W g (maskOf (r .masks))) cs ≡ costsOf K W g budget cs w
 
 module _ (K W : ℕ) (pos : 0 < K) {g : Graph} (undirected : Undirected g) (budget : ℕ) where
-  pub settled : {xs : List ℕ} {cs : List (List ℕ)} → Cut g xs cs → Distinct xs → (w : Reached) → ((u : ℕ) → u ∈ xs → u < length (w .masks))
+  pub settled : {xs : List ℕ} {cs : List (List ℕ)} → Partition g xs cs → Distinct xs → (w : Reached) → ((u : ℕ) → u ∈ xs → u < length (w .masks))
       → Settled K W g budget xs cs w (searchAll K W budget g cs w)
   unfolding searchAll sumParts costsOf
   settled end d w h = record { size = refl; outside = λ u n. refl; below = λ u m. none-in m; cost = refl }
-  settled (part {v} {after = vs} {c} {cs} comp i cut) d w h =
+  settled (part {v} {after = vs} {c} {cs} comp i partition) d w h =
       let s = found K W g budget c w in
       let p = s .incumbent in
-      let sound = from-sound K W (localGraph g c) budget (length c) (w .steps) (w .stopped) pos in
-      let own = put-own c p (w .masks) (component-distinct comp d) (λ u m. h u (component-in comp m)) (sound .size) in
-      let ih = settled cut (distinct-keep _ (v ∷ vs) d) (after K W g budget c w)
+      let feasible = from-feasible K W (localGraph g c) budget (length c) (w .steps) (w .stopped) pos in
+      let own = put-own c p (w .masks) (component-distinct comp d) (λ u m. h u (component-in comp m)) (feasible .size) in
+      let ih = settled partition (distinct-keep _ (v ∷ vs) d) (after K W g budget c w)
       (λ u m. rw (put-length c p (w .masks)) (h u (keep-in _ (v ∷ vs) m .0))) in
       let kept : (u : ℕ) → u ∈ c → maskOf (searchAll K W budget g cs (after K W g budget c w) .masks) u ≡ maskOf (putMasks c p (w .masks)) u
       = λ u m. ih .outside u (λ n. clash (occurs-in u c .1 m) (not-true (occurs u c) (keep-in _ (v ∷ vs) n .1))) in
@@ -87,11 +90,11 @@ module _ (K W : ℕ) (pos : 0 < K) {g : Graph} (undirected : Undirected g) (budg
         size = ih .size ∙ put-length c p (w .masks);
         outside = λ u n. ih .outside u (λ m. n (keep-in _ (v ∷ vs) m .0)) ∙ put-other c p (w .masks) u (λ m. n (component-in comp m));
         below = λ u m. ⊎-elim
-            (λ k. rw (kept u k) (each-image (λ x. x < K) (maskOf (putMasks c p (w .masks))) c (rw own (sound .below)) u k))
+            (λ k. rw (kept u k) (each-image (λ x. x < K) (maskOf (putMasks c p (w .masks))) c (rw own (feasible .below)) u k))
             (λ n. ih .below u (in-keep _ m (ap not (occurs-out u c .1 n))))
             (in-or-out u c);
         cost = ap₂ _+_
-            (cost-same W g _ _ c kept ∙ put-cost W undirected c p (w .masks) (component-distinct comp d) (λ u m. h u (component-in comp m)) (sound .size) ∙ sym (sound .cost))
+            (cost-same W g _ _ c kept ∙ put-cost W undirected c p (w .masks) (component-distinct comp d) (λ u m. h u (component-in comp m)) (feasible .size) ∙ sym (feasible .cost))
             (ih .cost);
       }
 
@@ -135,3 +138,56 @@ module _ (K W : ℕ) (g : Graph) {b₁ b₂ : ℕ} (le : b₁ ≤ b₂) where
             let ran : s₁ .stopped ≡ false = not-before (all-sticks K W g b₁ cs (after K W g b₁ c w₁)) e in
             ih .same e (ap₂ (λ (s : State) (masks : List ℕ). putMasks c (s .incumbent) masks) (one .same ran) q);
       }
+
+-- ---- A budget and none
+
+-- what is reached where no search was stopped
+abbrev pub unstopped : Completed → Reached
+unstopped v = record { steps = v .steps; stopped = false; masks = v .masks }
+
+-- What w, reached at the budget b, is to what the complete searches come to: the same, or the budget fell short.
+abbrev pub FollowsAll : ℕ → Reached → Completed → Type 0
+FollowsAll b w v = ((v .steps ≤ b) × (w ≡ unstopped v)) ⊎ Short b (w .steps) (w .stopped) (v .steps)
+
+module _ {b : ℕ} {w : Reached} {v : Completed} where
+  -- the steps are those in all, or the budget if that is less
+  pub follows-steps : FollowsAll b w v → w .steps ≡ min (v .steps) b
+  follows-steps (inl e) = rw (e .1) (omega arith)
+  follows-steps (inr s) = omega arith
+
+  -- a search was stopped exactly where the budget is less than the steps in all
+  pub follows-stopped : FollowsAll b w v → (w .stopped ≡ true) ↔ (b < v .steps)
+  follows-stopped (inl e) = (λ t. clash t (ap (λ (r : Reached). r .stopped) (e .1)), λ l. absurd (omega arith))
+  follows-stopped (inr s) = (λ t. s .beyond, λ l. s .over)
+
+  -- and otherwise all is as without a budget
+  pub follows-ended : FollowsAll b w v → (w .stopped ≡ false) ↔ (v .steps ≤ b)
+  follows-ended (inl e) = (λ t. e .0, λ l. ap (λ (r : Reached). r .stopped) (e .1))
+  follows-ended (inr s) = (λ t. clash (s .over) t, λ l. absurd (omega arith))
+
+  pub follows-same : FollowsAll b w v → v .steps ≤ b → w ≡ unstopped v
+  follows-same (inl e) l = e .1
+  follows-same (inr s) l = absurd (omega arith)
+
+module _ (K W : ℕ) (g : Graph) (b : ℕ) where
+  -- the complete search of one component more
+  abbrev completeNext : List ℕ → Completed → Completed
+  completeNext c v =
+      let s = completeFrom K W (localGraph g c) (length c) in
+      record { steps = v .steps + s .steps; masks = putMasks c (s .incumbent) (v .masks) }
+
+  one-follows : (c : List ℕ) (w : Reached) (v : Completed) → FollowsAll b w v → FollowsAll b (after K W g b c w) (completeNext c v)
+  one-follows c w v (inl e) =
+      rw (e .1)
+      (⊎-elim
+      (λ f. inl (f .0, ap (λ (s : State). record { steps = s .steps; stopped = s .stopped; masks = putMasks c (s .incumbent) (v .masks) }) (f .1)))
+      (λ s. inr s)
+      (from-follows K W (localGraph g c) (length c) (inl (e .0, refl, refl))))
+  one-follows c w v (inr s) =
+      ⊎-elim (λ f. absurd (omega arith)) (λ t. inr t) (from-follows K W (localGraph g c) (length c) (inr s))
+
+  -- the searches at a budget follow the complete ones
+  pub all-follows : (cs : List (List ℕ)) (w : Reached) (v : Completed) → FollowsAll b w v → FollowsAll b (searchAll K W b g cs w) (completeAll K W g cs v)
+  unfolding searchAll completeAll
+  all-follows [] w v f = f
+  all-follows (c ∷ cs) w v f = all-follows cs (after K W g b c w) (completeNext c v) (one-follows c w v f)

@@ -49,15 +49,19 @@ loop-less c = omega arith
 
 loop-again : tie.Need-loop-again Inv-loop μ-loop
 loop-again c =
-    let at = c .before .before .before .before .before .before .before .before .loop in
-    let s = c .before .before .before .before .before .before .before .before .before .before .args .settings in
-    let flat = c .before .before .before .before .before .before .before .before .before .before .args .flat .now in
-    let j = c .before .before .before .before .before .before .before .before .before .before .args .j in
-    let conflict : c .before .before .before .before .conflict .result ≡ conflictOf s flat (at .i) j = rw (← c .before .before .before .before .before .before .piece-at2 .ensures, ← c .before .before .before .before .before .before .before .before .before .piece-at .ensures) (c .before .before .before .before .conflict .ensures) in
-    let stitch : c .before .stitch .result ≡ stitchOf s flat (at .i) j = rw (← c .before .before .before .before .before .before .piece-at2 .ensures, ← c .before .before .before .before .before .before .before .before .before .piece-at .ensures) (c .before .stitch .ensures) in (
+    let tested = c .before .before .before .before in
+    let other = tested .before .before in
+    let loop = other .before .before in
+    let piece = loop .before in
+    let args = piece .before .args in
+    let s = args .settings in
+    let flat = args .flat .now in
+    let at = loop .loop in
+    let conflict : tested .conflict .result ≡ conflictOf s flat (at .i) (args .j) = rw (← other .piece-at2 .ensures, ← piece .piece-at .ensures) (tested .conflict .ensures) in
+    let stitch : c .before .stitch .result ≡ stitchOf s flat (at .i) (args .j) = rw (← other .piece-at2 .ensures, ← piece .piece-at .ensures) (c .before .stitch .ensures) in (
       omega arith,
-      row-more (conflictOf s flat) (λ a b. conflict-sym s _ _) (at .i) j _ (omega arith) conflict (at .inv .1) (c .before .before .before .join-where .ensures),
-      row-more (stitchOf s flat) (λ a b. stitch-sym s _ _) (at .i) j _ (omega arith) stitch (at .inv .2) (c .join-where2 .ensures),
+      row-more (conflictOf s flat) (λ a b. conflict-sym s _ _) (at .i) (args .j) _ (omega arith) conflict (at .inv .1) (c .before .before .before .join-where .ensures),
+      row-more (stitchOf s flat) (λ a b. stitch-sym s _ _) (at .i) (args .j) _ (omega arith) stitch (at .inv .2) (c .join-where2 .ensures),
     )
 
 returns : tie.Need-returns Inv-loop μ-loop

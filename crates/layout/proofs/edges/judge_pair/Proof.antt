@@ -41,7 +41,11 @@ enum-known-first c = search needs
 
 returns-2 : tie.Need-returns-2
 returns-2 c =
-    sym (pair _ _ _ (passed _ _ (c .before .before .before .before .before .in-range .ensures) (c .before .before .before .before .if1 .left)) ∙ rw (sym (c .before .before .before .judge-piece .ensures) ∙ ap judgement (c .before .first .given .1)))
+    let first = c .before .before .before in
+    let ranged = first .before in
+    sym
+    (pair _ _ _ (passed _ _ (ranged .before .in-range .ensures) (ranged .if1 .left))
+    ∙ rw (sym (first .judge-piece .ensures) ∙ ap judgement (c .before .first .given .1)))
 
 enum-told : tie.Need-enum-told
 enum-told c = search needs
@@ -54,11 +58,15 @@ enum-known-second c = search needs
 
 returns-3 : tie.Need-returns-3
 returns-3 c =
+    let second = c .before .before .before in
+    let told = second .before in
+    let first = told .before .before in
+    let ranged = first .before in
     sym
-    (pair _ _ _ (passed _ _ (c .before .before .before .before .before .before .before .before .in-range .ensures) (c .before .before .before .before .before .before .before .if1 .left))
+    (pair _ _ _ (passed _ _ (ranged .before .in-range .ensures) (ranged .if1 .left))
     ∙ rw (
-      sym (c .before .before .before .before .before .before .judge-piece .ensures) ∙ ap judgement (c .before .before .before .before .enum-told .given .1),
-      sym (c .before .before .before .judge-piece2 .ensures) ∙ ap judgement (c .before .second .given .1),
+      sym (first .judge-piece .ensures) ∙ ap judgement (told .enum-told .given .1),
+      sym (second .judge-piece2 .ensures) ∙ ap judgement (c .before .second .given .1),
     ))
 
 enum-told-2 : tie.Need-enum-told-2
@@ -69,21 +77,31 @@ pieces-overlap-requires c κs = search needs
 
 returns-4 : tie.Need-returns-4
 returns-4 c =
+    let passing = c .before .before in
+    let second = passing .before .before in
+    let told = second .before in
+    let first = told .before .before in
+    let ranged = first .before in
     sym
-    (pair _ _ _ (passed _ _ (c .before .before .before .before .before .before .before .before .before .in-range .ensures) (c .before .before .before .before .before .before .before .before .if1 .left))
+    (pair _ _ _ (passed _ _ (ranged .before .in-range .ensures) (ranged .if1 .left))
     ∙ rw (
-      sym (c .before .before .before .before .before .before .before .judge-piece .ensures) ∙ ap judgement (c .before .before .before .before .before .enum-told .given .1),
-      sym (c .before .before .before .before .judge-piece2 .ensures) ∙ ap judgement (c .before .before .enum-told2 .given .1),
+      sym (first .judge-piece .ensures) ∙ ap judgement (told .enum-told .given .1),
+      sym (second .judge-piece2 .ensures) ∙ ap judgement (passing .enum-told2 .given .1),
       sym (c .before .pieces-overlap .ensures) ∙ c .if2 .taken,
     ))
 
 returns-5 : tie.Need-returns-5
 returns-5 c =
+    let passing = c .before .before in
+    let second = passing .before .before in
+    let told = second .before in
+    let first = told .before .before in
+    let ranged = first .before in
     sym
-    (pair _ _ _ (passed _ _ (c .before .before .before .before .before .before .before .before .before .in-range .ensures) (c .before .before .before .before .before .before .before .before .if1 .left))
+    (pair _ _ _ (passed _ _ (ranged .before .in-range .ensures) (ranged .if1 .left))
     ∙ rw (
-      sym (c .before .before .before .before .before .before .before .judge-piece .ensures) ∙ ap judgement (c .before .before .before .before .before .enum-told .given .1),
-      sym (c .before .before .before .before .judge-piece2 .ensures) ∙ ap judgement (c .before .before .enum-told2 .given .1),
+      sym (first .judge-piece .ensures) ∙ ap judgement (told .enum-told .given .1),
+      sym (second .judge-piece2 .ensures) ∙ ap judgement (passing .enum-told2 .given .1),
       sym (c .before .pieces-overlap .ensures) ∙ c .if2 .left,
     ))
 

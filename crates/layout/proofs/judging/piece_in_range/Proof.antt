@@ -27,10 +27,16 @@ unfolding pieceInRange
 returns-3 c = simp (leb·zero, le-leb _ _ (c .before .before .before .before .if1 .left), le-leb _ _ (c .before .before .if2 .left), lt-leb _ _ (c .if3 .taken))
 
 returns-4 : tie.Need-returns-4
-returns-4 c = sym (left _ (c .before .before .before .before .before .before .before .if1 .left) (c .before .before .before .before .before .if2 .left) (c .before .before .before .if3 .left) ∙ rw (le-leb _ _ (c .before .if4 .taken)))
+returns-4 c =
+    let third = c .before .before .before in
+    let second = third .before .before in
+    sym (left _ (second .before .before .if1 .left) (second .if2 .left) (third .if3 .left) ∙ rw (le-leb _ _ (c .before .if4 .taken)))
 
 returns-5 : tie.Need-returns-5
-returns-5 c = sym (left _ (c .before .before .before .before .before .before .if1 .left) (c .before .before .before .before .if2 .left) (c .before .before .if3 .left) ∙ rw (lt-leb _ _ (c .if4 .left)))
+returns-5 c =
+    let third = c .before .before in
+    let second = third .before .before in
+    sym (left _ (second .before .before .if1 .left) (second .if2 .left) (third .if3 .left) ∙ rw (lt-leb _ _ (c .if4 .left)))
 
 pub piece-in-range-spec : {M : Type 1} → statement M
 piece-in-range-spec = tie.close (tie.spec returns returns-2 returns-3 returns-4 returns-5)

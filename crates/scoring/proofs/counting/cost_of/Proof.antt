@@ -1,7 +1,7 @@
 -- `cost_of`: the cost fits 32 bits. Assumes nothing.
 use borrow.Author.Needs.{needs}
 use native.Mathlib.Omega.{arith}
-use Rattle.scoring.proofs.ScoreLaws.{cost-small}
+use Rattle.rules.proofs.ScoreBounds.{cost-small}
 use Rattle.scoring.proofs.counting.cost_of.Statement.{statement}
 use Rattle.scoring.proofs.counting.cost_of.Tie as tie
 

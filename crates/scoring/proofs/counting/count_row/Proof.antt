@@ -3,7 +3,7 @@ use mathlib.Core.Path.{_≡_, refl, _∙_}
 use Prim.Native.Nat.{_+_, _-_, _≤_}
 use native.Mathlib.Omega.{arith}
 use Rattle.rules.specs.Basics.{sumTo}
-use Rattle.scoring.specs.Counts.{conflictIn, stitchIn}
+use Rattle.scoring.specs.ScoreWords.{conflictIn, stitchIn}
 use Rattle.rules.proofs.Sums.{sum-more}
 use Rattle.scoring.proofs.ScoreLaws.{conflict-le, stitch-le}
 use Rattle.scoring.proofs.counting.count_row.Statement.{statement}

@@ -5,7 +5,7 @@ use native.Mathlib.Omega.{arith}
 use Rattle.rules.specs.declared.answers.Score.{Score}
 use Rattle.rules.specs.Basics.{sumTo, sumPairs}
 use Rattle.rules.specs.Score.{scoreOf, conflictsOf, stitchesOf}
-use Rattle.scoring.specs.Counts.{conflictIn, stitchIn}
+use Rattle.scoring.specs.ScoreWords.{conflictIn, stitchIn}
 use Rattle.rules.proofs.Sums.{pairs-more, pairs-small}
 use Rattle.scoring.proofs.ScoreLaws.{conflict-le, stitch-le}
 use Rattle.scoring.proofs.counting.score_words.Statement.{statement}

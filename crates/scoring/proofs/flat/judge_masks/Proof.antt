@@ -6,7 +6,7 @@ use borrow.Author.Tests.{lt-ltb, le-ltb}
 use lib.ListN.{length, getD}
 use Rattle.rules.specs.Questions.{done, askEach}
 use Rattle.rules.proofs.Outcomes.{each-next, each-refused}
-use Rattle.scoring.specs.Counts.{maskQuestion}
+use Rattle.scoring.specs.ScoreWords.{maskQuestion}
 use Rattle.scoring.proofs.flat.judge_masks.Statement.{statement}
 use Rattle.scoring.proofs.flat.judge_masks.Tie as tie
 

@@ -11,11 +11,16 @@ adjacency-words-requires c κs = c .before .before .before .pre .0
 
 score-words-requires : tie.Need-score-words-requires
 score-words-requires c κs =
-    let f = valid-flat _ _ _ (c .before .before .before .before .before .before .pre .0) in
-    (settings-facts _ (f .settings) .weight .high, (f .count, c .before .before .before .before .before .before .pre .1))
+    let built = c .before .before in
+    let start = built .before .before .before .before in
+    let f = valid-flat _ _ _ (start .pre .0) in
+    (settings-facts _ (f .settings) .weight .high, (f .count, start .pre .1))
 
 returns : tie.Need-returns
-returns c = c .score-words .ensures ∙ words-score _ _ _ _ _ _ _ (c .before .before .before .adjacency-words .ensures) (valid-flat _ _ _ (c .before .before .before .before .before .before .before .pre .0) .count)
+returns c =
+    let built = c .before .before .before in
+    let start = built .before .before .before .before in
+    c .score-words .ensures ∙ words-score _ _ _ _ _ _ _ (built .adjacency-words .ensures) (valid-flat _ _ _ (start .pre .0) .count)
 
 pub score-spec : {M : Type 1} → statement M
 score-spec = tie.close (tie.spec adjacency-words-requires score-words-requires returns)

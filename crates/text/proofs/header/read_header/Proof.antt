@@ -1,24 +1,25 @@
 -- `read_header`: the numbers read and the lines from here on are the six lines. Assumes nothing.
 use borrow.Author.Needs.{needs}
 use native.Mathlib.Omega.{arith}
-use mathlib.Core.Path.{_≡_, refl, ap, subst}
-use Prim.Native.Nat.{ℕ, _-_, _≤_, _<_, zero-le}
 use mathlib.Core.List.{List, [], _∷_}
-use lib.ListN.{length, getD, length-drop, length-set}
-use Rattle.text.specs.Header.{lineBytes, SettingFound}
-use Rattle.text.proofs.Reading.{part-from}
-use Rattle.text.proofs.SixLines.{Read, read-start, read-on, read-stop, count-on, read-end}
+use mathlib.Core.Path.{_≡_, refl, ap, sym, subst}
+use Prim.Native.Nat.{ℕ, _+_, _-_, _≤_, _<_}
+use lib.ListN.{length, length-drop, length-set}
+use Rattle.lines.proofs.NumberParts.{part-from}
+use Rattle.text.specs.declared.header.HeaderAnswer.{HeaderAnswer}
+use Rattle.text.specs.Header.{headerLine, numberBytes, NumberFound, HeaderFound}
+use Rattle.text.proofs.HeaderLines.{Read, read-start, read-on, read-stop, read-end}
 use Rattle.text.proofs.header.read_header.Statement.{statement}
 use Rattle.text.proofs.header.read_header.Tie as tie
 
 abbrev Inv-loop : tie.InvT-loop
-Inv-loop text values₀ at₀ i₀ values at i = (i ≤ 6) × (at ≤ length text) × (length values ≡ 6) × Read text values at i × (6 ≤ i → getD values 5 0 ≤ 512)
+Inv-loop text values₀ at₀ i₀ values at i = (i ≤ 6) × (at ≤ length text) × (length values ≡ 6) × Read text values at i
 
 abbrev μ-loop : tie.MeasureT-loop
 μ-loop text values₀ at₀ i₀ values at i = 6 - i
 
 loop-holds : tie.Need-loop-holds Inv-loop μ-loop
-loop-holds c = (omega arith, omega arith, refl, read-start _ (0 ∷ 0 ∷ 0 ∷ 0 ∷ 0 ∷ 0 ∷ []), λ h. absurd (omega arith))
+loop-holds c = (omega arith, omega arith, refl, read-start _ (0 ∷ 0 ∷ 0 ∷ 0 ∷ 0 ∷ 0 ∷ []))
 
 sub-read-setting : tie.Need-sub-read-setting Inv-loop μ-loop
 sub-read-setting c = search needs
@@ -43,11 +44,10 @@ array-write-values c = search needs
 
 add-at : tie.Need-add-at Inv-loop μ-loop
 add-at c =
-    let text = c .before .before .before .before .before .before .before .before .args .text .now in
-    let at = c .before .before .before .before .before .before .loop .at in
-    let found = c .before .before .before .read-setting .ensures .inside in
-    let bytes = ap lineBytes (c .before .number .given .1) in
-    omega (arith, found, bytes, ap length (part-from text at), length-drop at text)
+    let got = c .before .before .before in
+    let loop = got .before .before .before in
+    let text = loop .before .before .args .text .now in
+    omega (arith, got .read-setting .ensures .inside, ap numberBytes (c .before .number .given .1), ap length (part-from text (loop .loop .at)), length-drop (loop .loop .at) text)
 
 add-i : tie.Need-add-i Inv-loop μ-loop
 add-i c = search needs
@@ -57,76 +57,44 @@ loop-less c = search needs
 
 loop-again : tie.Need-loop-again Inv-loop μ-loop
 loop-again c =
-    let text = c .before .before .before .before .before .before .before .before .args .text .now in
-    let at = c .before .before .before .before .before .before .loop .at in
-    let values = c .before .before .before .before .before .before .loop .values in
-    let i = c .before .before .before .before .before .before .loop .i in
-    let inv = c .before .before .before .before .before .before .loop .inv in
+    let got = c .before .before .before in
+    let turn = got .before .before in
+    let loop = turn .before .loop in
+    let text = turn .before .before .before .args .text .now in
+    let r = got .read-setting .result in
+    let found = subst (λ (s : List ℕ). NumberFound (headerLine (loop .i)) (loop .i + 1) s r) (part-from text (loop .at)) (got .read-setting .ensures) in
     let told = c .before .number .given .1 in
-    let r = c .before .before .before .read-setting .result in
-    let found = subst (λ (s : List ℕ). SettingFound s i r) (part-from text at) (c .before .before .before .read-setting .ensures) in
-    let turn = c .before .before .before .before .before .loop-test .taken in
-    let room : i < length values = omega (arith, inv .2) in (
+    let room : loop .i < length (loop .values) = omega (arith, loop .inv .2) in (
       omega arith,
-      omega (arith, found .inside, ap lineBytes told, length-drop at text),
-      simp length-set (inv .2),
-      read-on text values at i (inv .3) r found _ _ turn room told,
-      count-on text values at i (inv .3) r found _ _ turn room told,
+      omega (arith, found .inside, ap numberBytes told, length-drop (loop .at) text),
+      simp length-set (loop .inv .2),
+      read-on text (loop .values) (loop .at) (loop .i) (loop .inv .3) (turn .loop-test .taken) r found _ _ room told,
     )
 
-enum-known-question : tie.Need-enum-known-question Inv-loop μ-loop
-enum-known-question c = search needs
-
-cast-t19 : tie.Need-cast-t19 Inv-loop μ-loop
-cast-t19 c = search needs
-
-add-t20 : tie.Need-add-t20 Inv-loop μ-loop
-add-t20 c = search needs
+enum-known-refusal : tie.Need-enum-known-refusal Inv-loop μ-loop
+enum-known-refusal c = search needs
 
 returns : tie.Need-returns Inv-loop μ-loop
 returns c =
-    let text = c .before .before .before .before .before .before .before .before .args .text .now in
-    let at = c .before .before .before .before .before .before .loop .at in
-    let values = c .before .before .before .before .before .before .loop .values in
-    let i = c .before .before .before .before .before .before .loop .i in
-    let inv = c .before .before .before .before .before .before .loop .inv in
-    let r = c .before .before .before .read-setting .result in
-    let found = subst (λ (s : List ℕ). SettingFound s i r) (part-from text at) (c .before .before .before .read-setting .ensures) in
-    record {
-      found = read-stop text values at i (inv .3) r found _ (c .before .before .before .before .before .loop-test .taken) (c .before .question .given .1);
-      inside = zero-le;
-      few = zero-le;
-    }
+    let got = c .before .before .before in
+    let turn = got .before .before in
+    let loop = turn .before .loop in
+    let text = turn .before .before .before .args .text .now in
+    let r = got .read-setting .result in
+    let found = subst (λ (s : List ℕ). NumberFound (headerLine (loop .i)) (loop .i + 1) s r) (part-from text (loop .at)) (got .read-setting .ensures) in
+    read-stop text (loop .values) (loop .at) (loop .i) (loop .inv .3) (turn .loop-test .taken) r found _ _ (c .before .refusal .given .1)
 
-array-read-count : tie.Need-array-read-count Inv-loop μ-loop
-array-read-count c = search needs
-
-array-read-t26 : tie.Need-array-read-t26 Inv-loop μ-loop
-array-read-t26 c = search needs
-
-array-read-t29 : tie.Need-array-read-t29 Inv-loop μ-loop
-array-read-t29 c = search needs
-
-array-read-t32 : tie.Need-array-read-t32 Inv-loop μ-loop
-array-read-t32 c = search needs
-
-array-read-t35 : tie.Need-array-read-t35 Inv-loop μ-loop
-array-read-t35 c = search needs
-
-array-read-count-2 : tie.Need-array-read-count-2 Inv-loop μ-loop
-array-read-count-2 c = search needs
-
-cast-count : tie.Need-cast-count Inv-loop μ-loop
-cast-count c = omega (arith, c .before .loop .inv .4 (omega arith))
+header-from-requires : tie.Need-header-from-requires Inv-loop μ-loop
+header-from-requires c κs = search needs
 
 returns-2 : tie.Need-returns-2 Inv-loop μ-loop
 returns-2 c =
-    let inv = c .before .loop .inv in
-    let all : c .before .loop .i ≡ 6 = omega arith in
-    let text = c .before .before .before .args .text .now in
-    let values = c .before .loop .values in
-    let at = c .before .loop .at in
-    read-end text values at (subst (λ (i : ℕ). Read text values at i) all (inv .3)) (inv .2) (inv .1) (inv .4 (omega arith))
+    let left = c .before in
+    let loop = left .before .loop in
+    let text = left .before .before .before .args .text .now in
+    let all : loop .i ≡ 6 = omega arith in
+    let found = read-end text (loop .values) (loop .at) (subst (λ (i : ℕ). Read text (loop .values) (loop .at) i) all (loop .inv .3)) (loop .inv .2) (loop .inv .1) in
+    subst (λ (r : HeaderAnswer). HeaderFound text r) (sym (c .header-from .ensures)) found
 
 pub read-header-spec : {M : Type 1} → statement M
 read-header-spec =
@@ -146,15 +114,7 @@ read-header-spec =
     add-i
     loop-less
     loop-again
-    enum-known-question
-    cast-t19
-    add-t20
+    enum-known-refusal
     returns
-    array-read-count
-    array-read-t26
-    array-read-t29
-    array-read-t32
-    array-read-t35
-    array-read-count-2
-    cast-count
+    header-from-requires
     returns-2)

@@ -1,9 +1,14 @@
--- `read_piece`: the form, then the ranges, then the area. Assumes nothing.
+-- `read_piece`: the form, then the judgement of the piece; the numbers up to the cap decide as the numbers themselves. Assumes nothing.
 use borrow.Author.Needs.{needs}
 use borrow.Author.Tests.{not-true, not-false}
-use mathlib.Core.Path.{sym, _∙_}
-use Rattle.rules.specs.LayerText.{ascii}
-use Rattle.text.proofs.PieceLines.{piece-bad-form, piece-out, piece-flat, piece-good}
+use mathlib.Core.Path.{_≡_, sym, ap, subst, _∙_}
+use Rattle.rules.specs.declared.layer.Piece.{Piece}
+use Rattle.rules.specs.declared.refusal.Place.{Place}
+use Rattle.rules.specs.Lines.{ascii}
+use Rattle.rules.specs.Questions.{judgePiece}
+use Rattle.text.specs.declared.pieces.PieceAnswer.{PieceAnswer}
+use Rattle.text.specs.Pieces.{PieceFound}
+use Rattle.text.proofs.PieceLines.{piece-form, piece-refused, piece-good}
 use Rattle.text.proofs.pieces.read_piece.Statement.{statement}
 use Rattle.text.proofs.pieces.read_piece.Tie as tie
 
@@ -17,46 +22,40 @@ returns : tie.Need-returns
 unfolding ascii
 returns c =
     let line = c .before .before .read-line in
-    piece-bad-form _ (line .result) (line .ensures) (not-true (line .result .good) (c .if1 .taken))
+    piece-form _ _ (line .result) (line .ensures) (not-true (line .result .good) (c .if1 .taken))
 
-array-read-t12 : tie.Need-array-read-t12
-array-read-t12 c = search needs
+piece-from-requires : tie.Need-piece-from-requires
+piece-from-requires c κs = search needs
 
-array-read-t15 : tie.Need-array-read-t15
-array-read-t15 c = search needs
+judge-piece-requires : tie.Need-judge-piece-requires
+judge-piece-requires c κs = search needs
 
-array-read-t18 : tie.Need-array-read-t18
-array-read-t18 c = search needs
+enum-known-refusal : tie.Need-enum-known-refusal
+enum-known-refusal c = search needs
 
-array-read-t21 : tie.Need-array-read-t21
-array-read-t21 c = search needs
-
-array-read-t24 : tie.Need-array-read-t24
-array-read-t24 c = search needs
-
-piece-in-range-requires : tie.Need-piece-in-range-requires
-piece-in-range-requires c κs = search needs
+enum-told : tie.Need-enum-told
+enum-told c = search needs
 
 returns-2 : tie.Need-returns-2
 unfolding ascii
 returns-2 c =
-    let line = c .before .before .before .before .before .read-line in
-    piece-out _ (line .result) (line .ensures) (not-false (line .result .good) (c .before .before .before .if1 .left)) (sym (c .before .piece-in-range .ensures) ∙ not-true (c .before .piece-in-range .result) (c .if2 .taken))
-
-has-area-requires : tie.Need-has-area-requires
-has-area-requires c κs = search needs
+    let judged = c .before .before .before in
+    let made = judged .before .piece-from .ensures in
+    let formed = judged .before .before .before in
+    let line = formed .before .before .read-line in
+    let start = formed .before .before .before .before .before in
+    piece-refused _ (start .args .line) (line .result) (line .ensures) (not-false (line .result .good) (formed .if1 .left)) (judged .judge-piece .result) (judged .judge-piece .ensures ∙ ap (judgePiece (Place.Line (start .args .line))) made) _ _ (c .before .refusal .given .1)
 
 returns-3 : tie.Need-returns-3
 unfolding ascii
 returns-3 c =
-    let line = c .before .before .before .before .before .before .before .read-line in
-    piece-flat _ (line .result) (line .ensures) (not-false (line .result .good) (c .before .before .before .before .before .if1 .left)) (sym (c .before .before .before .piece-in-range .ensures) ∙ not-false (c .before .before .before .piece-in-range .result) (c .before .before .if2 .left)) (sym (c .before .has-area .ensures) ∙ not-true (c .before .has-area .result) (c .if3 .taken))
-
-returns-4 : tie.Need-returns-4
-unfolding ascii
-returns-4 c =
-    let line = c .before .before .before .before .before .before .before .read-line in
-    piece-good _ (line .result) (line .ensures) (not-false (line .result .good) (c .before .before .before .before .before .if1 .left)) (sym (c .before .before .before .piece-in-range .ensures) ∙ not-false (c .before .before .before .piece-in-range .result) (c .before .before .if2 .left)) (sym (c .before .has-area .ensures) ∙ not-false (c .before .has-area .result) (c .if3 .left))
+    let judged = c .before .before in
+    let made = judged .before .piece-from .ensures in
+    let formed = judged .before .before .before in
+    let line = formed .before .before .read-line in
+    let start = formed .before .before .before .before .before in
+    let found = piece-good _ (start .args .line) (line .result) (line .ensures) (not-false (line .result .good) (formed .if1 .left)) (judged .judge-piece .result) (judged .judge-piece .ensures ∙ ap (judgePiece (Place.Line (start .args .line))) made) (c .enum-told .given .1) in
+    subst (λ (p : Piece). PieceFound (start .args .line) (start .args .text .now) (PieceAnswer.Read p (line .result .bytes))) (sym made) found
 
 pub read-piece-spec : {M : Type 1} → statement M
 read-piece-spec =
@@ -65,13 +64,9 @@ read-piece-spec =
     slice-aggregate-read-line
     read-line-requires
     returns
-    array-read-t12
-    array-read-t15
-    array-read-t18
-    array-read-t21
-    array-read-t24
-    piece-in-range-requires
+    piece-from-requires
+    judge-piece-requires
+    enum-known-refusal
+    enum-told
     returns-2
-    has-area-requires
-    returns-3
-    returns-4)
+    returns-3)

@@ -3,11 +3,11 @@ use borrow.Author.Needs.{needs}
 use native.Mathlib.Omega.{arith}
 use mathlib.Core.List.{List}
 use mathlib.Core.Path.{_≡_, ap, subst, _∙_}
-use Prim.Native.Nat.{ℕ, _-_, _≤_, _<_, zero-le}
+use Prim.Native.Nat.{ℕ, _+_, _-_, _≤_, _<_}
 use lib.ListN.{length, length-drop, length-set, length-replicate}
 use Rattle.rules.specs.Settings.{noPiece}
+use Rattle.lines.proofs.NumberParts.{part-from}
 use Rattle.text.specs.Pieces.{pieceBytes, PieceFound}
-use Rattle.text.proofs.Reading.{part-from}
 use Rattle.text.proofs.PieceLines.{Read, Zero, read-start, zero-on, read-on, read-stop, read-end}
 use Rattle.text.proofs.pieces.read_pieces.Statement.{statement}
 use Rattle.text.proofs.pieces.read_pieces.Tie as tie
@@ -35,6 +35,12 @@ part-read-piece-start c = search needs
 part-read-piece-end : tie.Need-part-read-piece-end Inv-loop μ-loop
 part-read-piece-end c = search needs
 
+cast-read-piece : tie.Need-cast-read-piece Inv-loop μ-loop
+cast-read-piece c = search needs
+
+add-read-piece : tie.Need-add-read-piece Inv-loop μ-loop
+add-read-piece c = search needs
+
 read-piece-requires : tie.Need-read-piece-requires Inv-loop μ-loop
 read-piece-requires c κs = search needs
 
@@ -49,9 +55,10 @@ array-set-from-records c = search needs
 
 add-at : tie.Need-add-at Inv-loop μ-loop
 add-at c =
-    let text = c .before .before .before .before .before .before .before .before .before .args .text .now in
-    let at = c .before .before .before .before .before .before .loop .at in
-    omega (arith, c .before .before .before .read-piece .ensures .inside, ap pieceBytes (c .before .piece .given .1), ap length (part-from text at), length-drop at text)
+    let got = c .before .before .before in
+    let loop = got .before .before .before in
+    let text = loop .before .before .before .args .text .now in
+    omega (arith, got .read-piece .ensures .inside, ap pieceBytes (c .before .piece .given .1), ap length (part-from text (loop .loop .at)), length-drop (loop .loop .at) text)
 
 add-k : tie.Need-add-k Inv-loop μ-loop
 add-k c = search needs
@@ -61,61 +68,47 @@ loop-less c = search needs
 
 loop-again : tie.Need-loop-again Inv-loop μ-loop
 loop-again c =
-    let text = c .before .before .before .before .before .before .before .before .before .args .text .now in
-    let at = c .before .before .before .before .before .before .loop .at in
-    let records = c .before .before .before .before .before .before .loop .records in
-    let k = c .before .before .before .before .before .before .loop .k in
-    let inv = c .before .before .before .before .before .before .loop .inv in
+    let got = c .before .before .before in
+    let turn = got .before .before in
+    let loop = turn .before .loop in
+    let text = turn .before .before .before .before .args .text .now in
+    let r = got .read-piece .result in
+    let found = subst (λ (s : List ℕ). PieceFound (loop .k + 7) s r) (part-from text (loop .at)) (got .read-piece .ensures) in
     let told = c .before .piece .given .1 in
-    let r = c .before .before .before .read-piece .result in
-    let found = subst (λ (s : List ℕ). PieceFound s r) (part-from text at) (c .before .before .before .read-piece .ensures) in
-    let turn = c .before .before .before .before .before .loop-test .taken in
-    let low : k < 512 = omega arith in
-    let room : k < length records = omega (arith, inv .2) in (
+    let low : loop .k < 512 = omega arith in
+    let room : loop .k < length (loop .records) = omega (arith, loop .inv .2) in (
       omega arith,
-      omega (arith, found .inside, ap pieceBytes told, length-drop at text),
-      simp length-set (inv .2),
-      read-on text _ records at k (inv .3) r found turn _ _ room told,
-      zero-on records k _ low (inv .4),
+      omega (arith, found .inside, ap pieceBytes told, length-drop (loop .at) text),
+      simp length-set (loop .inv .2),
+      read-on text _ (loop .records) (loop .at) (loop .k) (loop .inv .3) (turn .loop-test .taken) r found _ _ room told,
+      zero-on (loop .records) (loop .k) _ low (loop .inv .4),
     )
 
-enum-known-question : tie.Need-enum-known-question Inv-loop μ-loop
-enum-known-question c = search needs
+enum-known-refusal : tie.Need-enum-known-refusal Inv-loop μ-loop
+enum-known-refusal c = search needs
 
-cast-line : tie.Need-cast-line Inv-loop μ-loop
-cast-line c = search needs
-
-add-line : tie.Need-add-line Inv-loop μ-loop
-add-line c = search needs
+no-pieces-requires-2 : tie.Need-no-pieces-requires-2 Inv-loop μ-loop
+no-pieces-requires-2 c κs = search needs
 
 returns : tie.Need-returns Inv-loop μ-loop
 returns c =
-    let text = c .before .before .before .before .before .before .before .before .before .args .text .now in
-    let at = c .before .before .before .before .before .before .loop .at in
-    let inv = c .before .before .before .before .before .before .loop .inv in
-    let r = c .before .before .before .read-piece .result in
-    let found = subst (λ (s : List ℕ). PieceFound s r) (part-from text at) (c .before .before .before .read-piece .ensures) in
-    record {
-      found = read-stop text _ (c .before .before .before .before .before .before .loop .records) at _ (inv .3) r found (c .before .before .before .before .before .loop-test .taken) _ (c .before .question .given .1);
-      zero = λ e. let z : _≡_ {A = ℕ} 0 1 = cc e in absurd (omega arith);
-      size = inv .2;
-      inside = zero-le;
-    }
+    let got = c .before .before .before .before in
+    let turn = got .before .before in
+    let loop = turn .before .loop in
+    let text = turn .before .before .before .before .args .text .now in
+    let r = got .read-piece .result in
+    let found = subst (λ (s : List ℕ). PieceFound (loop .k + 7) s r) (part-from text (loop .at)) (got .read-piece .ensures) in
+    read-stop text _ (loop .records) (loop .at) (loop .k) (loop .inv .3) (turn .loop-test .taken) r found _ _ (c .before .before .refusal .given .1) (c .no-pieces2 .result) (c .no-pieces2 .ensures)
 
 returns-2 : tie.Need-returns-2 Inv-loop μ-loop
 returns-2 c =
-    let inv = c .before .loop .inv in
-    let text = c .before .before .before .before .args .text .now in
-    let count = c .before .before .before .before .args .count in
-    let records = c .before .loop .records in
-    let at = c .before .loop .at in
-    let all : c .before .loop .k ≡ count = omega arith in
-    record {
-      found = read-end text count records at (subst (λ (k : ℕ). Read text count records at k) all (inv .3));
-      zero = λ e. subst (λ (k : ℕ). Zero records k) all (inv .4);
-      size = inv .2;
-      inside = inv .1;
-    }
+    let loop = c .before .loop in
+    let start = c .before .before .before .before in
+    let text = start .args .text .now in
+    let count = start .args .count in
+    let all : loop .k ≡ count = omega arith in
+    let room : count ≤ length (loop .records) = omega (arith, loop .inv .2) in
+    read-end text count (loop .records) (loop .at) (subst (λ (k : ℕ). Read text count (loop .records) (loop .at) k) all (loop .inv .3)) room (loop .inv .1) (subst (λ (k : ℕ). Zero (loop .records) k) all (loop .inv .4))
 
 pub read-pieces-spec : {M : Type 1} → statement M
 read-pieces-spec =
@@ -128,6 +121,8 @@ read-pieces-spec =
     sub-read-piece
     part-read-piece-start
     part-read-piece-end
+    cast-read-piece
+    add-read-piece
     read-piece-requires
     enum-known-piece
     mul-records
@@ -136,8 +131,7 @@ read-pieces-spec =
     add-k
     loop-less
     loop-again
-    enum-known-question
-    cast-line
-    add-line
+    enum-known-refusal
+    no-pieces-requires-2
     returns
     returns-2)

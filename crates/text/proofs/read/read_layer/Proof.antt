@@ -1,13 +1,14 @@
--- `read_layer`: the size, then the six lines, then what follows them. Assumes nothing.
+-- `read_layer`: the size, the six lines, and the text after them. Assumes nothing.
 use borrow.Author.Needs.{needs}
+use native.Mathlib.Omega.{arith}
+use mathlib.Core.List.{List}
 use mathlib.Core.Path.{sym, ap, subst, _∙_}
-use Prim.Native.Nat.{ℕ, _≤_}
-use lib.ListN.{length}
+use Prim.Native.Nat.{ℕ}
 use Rattle.rules.specs.Answers.{HandedBack}
-use Rattle.rules.specs.Questions.{Outcome, Layer}
-use Rattle.text.specs.Header.{headerEnd, headerCount, layerBody}
-use Rattle.text.proofs.Reading.{part-from}
-use Rattle.text.proofs.Layers.{layer-large, layer-refused, layer-on}
+use Rattle.rules.specs.Questions.{Outcome, Layer, readBody}
+use Rattle.lines.proofs.NumberParts.{part-from}
+use Rattle.text.specs.Header.{headerBytes}
+use Rattle.text.proofs.LayerReading.{layer-large, layer-refused, layer-few, layer-on}
 use Rattle.text.proofs.read.read_layer.Statement.{statement}
 use Rattle.text.proofs.read.read_layer.Tie as tie
 
@@ -24,34 +25,46 @@ enum-known-settings : tie.Need-enum-known-settings
 enum-known-settings c = search needs
 
 sub-read-body : tie.Need-sub-read-body
-sub-read-body c = subst (λ (n : ℕ). n ≤ length (c .before .before .before .before .before .before .args .text .now)) (ap headerEnd (c .before .settings .given .1)) (c .before .before .before .read-header .ensures .inside)
+sub-read-body c =
+    let read = c .before .before .before .read-header in
+    omega (arith, read .ensures .inside, ap headerBytes (c .before .settings .given .1))
 
 part-read-body-start : tie.Need-part-read-body-start
-part-read-body-start c = subst (λ (n : ℕ). n ≤ length (c .before .before .before .before .before .before .args .text .now)) (ap headerEnd (c .before .settings .given .1)) (c .before .before .before .read-header .ensures .inside)
+part-read-body-start c =
+    let read = c .before .before .before .read-header in
+    omega (arith, read .ensures .inside, ap headerBytes (c .before .settings .given .1))
 
 part-read-body-end : tie.Need-part-read-body-end
 part-read-body-end c = search needs
 
 read-body-requires : tie.Need-read-body-requires
-read-body-requires c κs = subst (λ (n : ℕ). n ≤ 512) (ap headerCount (c .before .before .settings .given .1)) (c .before .before .before .before .read-header .ensures .few)
+read-body-requires c κs =
+    let told = c .before .before in
+    let read = told .before .before in
+    layer-few _ (read .before .if1 .left) (read .read-header .result) (read .read-header .ensures) _ _ _ (told .settings .given .1)
 
-enum-known-question : tie.Need-enum-known-question
-enum-known-question c = search needs
+enum-known-refusal : tie.Need-enum-known-refusal
+enum-known-refusal c = search needs
 
 refuse-requires-2 : tie.Need-refuse-requires-2
 refuse-requires-2 c κs = search needs
 
 returns-2 : tie.Need-returns-2
 returns-2 c =
-    let text = c .before .before .before .before .before .before .before .before .args .text .now in
-    let told = c .before .before .before .settings .given in
-    let settings = told .0 .0 in
-    let count = told .0 .1 .0 in
-    let at = told .0 .1 .1 .0 in
-    subst (λ (o : Outcome Layer). HandedBack o (c .read-body .result)) (ap (layerBody settings count) (part-from text at) ∙ sym (layer-on text (c .before .before .before .before .before .before .if1 .left) (c .before .before .before .before .before .read-header .result) (c .before .before .before .before .before .read-header .ensures) settings count at (told .1))) (c .read-body .ensures)
+    let told = c .before .before .before in
+    let read = told .before .before in
+    let text = read .before .before .before .args .text .now in
+    let given = told .settings .given in
+    let settings = given .0 .0 in
+    let count = given .0 .1 .0 in
+    let bytes = given .0 .1 .1 .0 in
+    let on = layer-on text (read .before .if1 .left) (read .read-header .result) (read .read-header .ensures) settings count bytes (given .1) in
+    subst (λ (o : Outcome Layer). HandedBack o (c .read-body .result)) (ap (readBody settings count) (part-from text bytes) ∙ sym on) (c .read-body .ensures)
 
 returns-3 : tie.Need-returns-3
-returns-3 c = subst (λ (o : Outcome Layer). HandedBack o (c .refuse2 .result)) (sym (layer-refused _ (c .before .before .before .before .before .if1 .left) (c .before .before .before .before .read-header .result) (c .before .before .before .before .read-header .ensures) _ _ (c .before .before .question .given .1))) (c .refuse2 .ensures)
+returns-3 c =
+    let read = c .before .before .before .before in
+    subst (λ (o : Outcome Layer). HandedBack o (c .refuse2 .result)) (sym (layer-refused _ (read .before .if1 .left) (read .read-header .result) (read .read-header .ensures) _ _ (c .before .before .refusal .given .1))) (c .refuse2 .ensures)
 
 pub read-layer-spec : {M : Type 1} → statement M
 read-layer-spec =
@@ -65,7 +78,7 @@ read-layer-spec =
     part-read-body-start
     part-read-body-end
     read-body-requires
-    enum-known-question
+    enum-known-refusal
     refuse-requires-2
     returns-2
     returns-3)

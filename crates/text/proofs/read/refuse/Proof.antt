@@ -1,6 +1,6 @@
 -- `refuse`: the records are zeros. Assumes nothing.
 use borrow.Author.Needs.{needs}
-use Rattle.text.proofs.Layers.{handed-refusal}
+use Rattle.text.proofs.LayerReading.{handed-refusal}
 use Rattle.text.proofs.read.refuse.Statement.{statement}
 use Rattle.text.proofs.read.refuse.Tie as tie
 

@@ -25,9 +25,11 @@ in-limits-requires-3 c κs = search needs
 returns-3 : tie.Need-returns-3
 unfolding settingsInRange
 returns-3 c =
+    let second = c .before .before in
+    let first = second .before .before in
     rw (
-      passed _ _ (c .before .before .before .before .before .in-limits .ensures) (c .before .before .before .before .if1 .left),
-      passed _ _ (c .before .before .before .in-limits2 .ensures) (c .before .before .if2 .left),
+      passed _ _ (first .before .in-limits .ensures) (first .if1 .left),
+      passed _ _ (second .before .in-limits2 .ensures) (second .if2 .left),
       failed _ _ (c .before .in-limits3 .ensures) (c .if3 .taken),
     )
 
@@ -37,10 +39,13 @@ in-limits-requires-4 c κs = search needs
 returns-4 : tie.Need-returns-4
 unfolding settingsInRange
 returns-4 c =
+    let third = c .before .before in
+    let second = third .before .before in
+    let first = second .before .before in
     rw (
-      passed _ _ (c .before .before .before .before .before .before .before .in-limits .ensures) (c .before .before .before .before .before .before .if1 .left),
-      passed _ _ (c .before .before .before .before .before .in-limits2 .ensures) (c .before .before .before .before .if2 .left),
-      passed _ _ (c .before .before .before .in-limits3 .ensures) (c .before .before .if3 .left),
+      passed _ _ (first .before .in-limits .ensures) (first .if1 .left),
+      passed _ _ (second .before .in-limits2 .ensures) (second .if2 .left),
+      passed _ _ (third .before .in-limits3 .ensures) (third .if3 .left),
       failed _ _ (c .before .in-limits4 .ensures) (c .if4 .taken),
     )
 
@@ -50,11 +55,15 @@ in-limits-requires-5 c κs = search needs
 returns-5 : tie.Need-returns-5
 unfolding settingsInRange
 returns-5 c =
+    let fourth = c .before in
+    let third = fourth .before .before in
+    let second = third .before .before in
+    let first = second .before .before in
     rw (
-      passed _ _ (c .before .before .before .before .before .before .before .before .in-limits .ensures) (c .before .before .before .before .before .before .before .if1 .left),
-      passed _ _ (c .before .before .before .before .before .before .in-limits2 .ensures) (c .before .before .before .before .before .if2 .left),
-      passed _ _ (c .before .before .before .before .in-limits3 .ensures) (c .before .before .before .if3 .left),
-      passed _ _ (c .before .before .in-limits4 .ensures) (c .before .if4 .left),
+      passed _ _ (first .before .in-limits .ensures) (first .if1 .left),
+      passed _ _ (second .before .in-limits2 .ensures) (second .if2 .left),
+      passed _ _ (third .before .in-limits3 .ensures) (third .if3 .left),
+      passed _ _ (fourth .before .in-limits4 .ensures) (fourth .if4 .left),
     )
     (c .in-limits5 .ensures)
 

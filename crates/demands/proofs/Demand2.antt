@@ -1,0 +1,33 @@
+-- Demand 2: edges are those of the rules' distances, counts and cost are those of the masks, a layer text reads as the one layer that it states, and
+-- a layer that was written is read back unchanged. Hence two different valid layers never have the same text. Assumes nothing.
+use mathlib.Core.List.{List}
+use mathlib.Core.Path.{_≡_, refl, sym, ap, _∙_}
+use Prim.Native.Nat.{ℕ}
+use Rattle.rules.specs.declared.layer.Settings.{Settings}
+use Rattle.rules.specs.declared.layer.Piece.{Piece}
+use Rattle.rules.specs.LayerText.{layerText}
+use Rattle.rules.specs.Questions.{Outcome, done, refused, Valid, Layer, readLayer}
+use Rattle.rules.specs.Demands.{Demand2}
+use Rattle.rules.proofs.Calls.{decompose-counts}
+use Rattle.rules.proofs.Edges.{conflict-exactly, stitch-exactly, conflicts-exactly, stitches-exactly}
+use Rattle.text.proofs.WrittenLayers.{read-states, reads-back}
+
+pub demand2 : Demand2
+demand2 = record {
+  conflict = conflict-exactly;
+  stitch = stitch-exactly;
+  conflicts = conflicts-exactly;
+  stitches = stitches-exactly;
+  counts = decompose-counts;
+  asStated = λ text l. (read-states text l, λ st. ap readLayer (st .written) ∙ reads-back l (st .valid));
+  readsBack = reads-back;
+}
+
+abbrev layerOf : Layer → Outcome Layer → Layer
+layerOf k (done l) = l
+layerOf k (refused number place) = k
+
+-- two different layers never have the same text
+pub one-layer : (k l : Layer) → Valid (k .settings) (k .pieces) → Valid (l .settings) (l .pieces)
+    → layerText (k .settings) (k .pieces) ≡ layerText (l .settings) (l .pieces) → k ≡ l
+one-layer k l vk vl e = ap (layerOf k) (sym (reads-back k vk) ∙ ap readLayer e ∙ reads-back l vl)

@@ -1,0 +1,113 @@
+-- Mask lines and piece lines, written one after the other, and the room that they take; the parts of a result; what writing a layer comes to. Assumes nothing.
+use mathlib.Core.List.{List, [], _∷_, _++_}
+use mathlib.Core.Path.{_≡_, refl, sym, ap, ap₂, _∙_}
+use Prim.Native.Nat.{ℕ, _+_, _-_, _*_, _≤_, _<_}
+use native.Mathlib.Omega.{arith}
+use lib.ListN.{length, getD, take, drop, length-append, length-drop}
+use lib.Seq.{getD-take, getD-drop, length-take-le}
+use borrow.Author.Tests.{le-leb, lt-leb}
+use Rattle.rules.specs.declared.layer.Settings.{Settings}
+use Rattle.rules.specs.declared.layer.Piece.{Piece}
+use Rattle.rules.specs.declared.refusal.Place.{Place}
+use Rattle.rules.specs.Calls.{writeLayer}
+use Rattle.rules.specs.Decomposition.{Run}
+use Rattle.rules.specs.Lines.{ascii, line, numberLines}
+use Rattle.rules.specs.LayerText.{pieceNumbers, pieceLine, pieceLines, layerText}
+use Rattle.rules.specs.Questions.{done, refused, judgeLayer, Valid, pieceFrom}
+use Rattle.rules.specs.ResultText.{verdictLine, resultKeys, resultNumbers, maskLine, maskLines, resultText}
+use Rattle.rules.specs.Settings.{noPiece}
+use Rattle.layout.specs.Flat.{pieceOf, piecesOf}
+use Rattle.layout.proofs.PieceLaws.{pieces-length, pieces-first, piece-of}
+use Rattle.lines.specs.Writing.{laid}
+use Rattle.lines.proofs.NumberLines.{laid-next, laid-room}
+use Rattle.text.proofs.WrittenLayers.{five}
+
+-- ---- Masks
+
+mask-laid : (masks : List ℕ) → maskLines masks ≡ laid maskLine masks
+unfolding maskLines laid
+mask-laid [] = refl
+mask-laid (m ∷ masks) = ap (λ (l : List ℕ). maskLine m ++ l) (mask-laid masks)
+
+module _ (masks : List ℕ) (k : ℕ) (h : k < length masks) where
+  pub masks-next : maskLines (take (k + 1) masks) ≡ maskLines (take k masks) ++ maskLine (getD masks k 0)
+  masks-next = mask-laid (take (k + 1) masks) ∙ laid-next maskLine 0 masks k h ∙ ap (λ (l : List ℕ). l ++ maskLine (getD masks k 0)) (sym (mask-laid (take k masks)))
+
+  pub masks-room : length (maskLines (take k masks)) + length (maskLine (getD masks k 0)) ≤ length (maskLines masks)
+  masks-room = rw (mask-laid (take k masks), mask-laid masks) (laid-room maskLine 0 masks k h)
+
+-- ---- Pieces
+
+piece-laid : (ps : List Piece) → pieceLines ps ≡ laid pieceLine ps
+unfolding pieceLines laid
+piece-laid [] = refl
+piece-laid (p ∷ ps) = ap (λ (l : List ℕ). pieceLine p ++ l) (piece-laid ps)
+
+-- a piece is stated by five numbers in a row
+stated : (flat : List ℕ) (k : ℕ) → pieceOf flat k ≡ pieceFrom (take 5 (drop (5 * k) flat))
+unfolding pieceOf
+stated flat k = λ i. record { shape = first i; x1 = at 1 (omega arith) i; y1 = at 2 (omega arith) i; x2 = at 3 (omega arith) i; y2 = at 4 (omega arith) i }
+  where
+    at : (j : ℕ) → j < 5 → getD flat (5 * k + j) 0 ≡ getD (take 5 (drop (5 * k) flat)) j 0
+    at j l = sym (getD-take 5 (drop (5 * k) flat) j 0 l ∙ getD-drop (5 * k) flat j 0)
+
+    first : getD flat (5 * k) 0 ≡ getD (take 5 (drop (5 * k) flat)) 0 0
+    first = ap (λ (n : ℕ). getD flat n 0) (let e : 5 * k ≡ 5 * k + 0 = omega arith in e) ∙ at 0 (omega arith)
+
+module _ (flat : List ℕ) (k n : ℕ) (h : k < n) (room : 5 * n ≤ length flat) where
+  abbrev five-numbers : List ℕ
+  five-numbers = take 5 (drop (5 * k) flat)
+
+  pub five-there : length five-numbers ≡ 5
+  five-there = length-take-le 5 (drop (5 * k) flat) (omega (arith, length-drop (5 * k) flat))
+
+  next-line : pieceLine (getD (piecesOf flat n) k noPiece) ≡ line (ascii "piece=") five-numbers
+  next-line = ap pieceLine (piece-of flat n k h ∙ stated flat k) ∙ ap (line (ascii "piece=")) (five five-numbers five-there)
+
+  inside : k < length (piecesOf flat n)
+  inside = omega (arith, pieces-length flat n)
+
+  -- the lines before it
+  before : laid pieceLine (take k (piecesOf flat n)) ≡ pieceLines (piecesOf flat k)
+  before = sym (piece-laid (take k (piecesOf flat n))) ∙ ap pieceLines (pieces-first flat k n (omega arith))
+
+  pub pieces-next : pieceLines (piecesOf flat (k + 1)) ≡ pieceLines (piecesOf flat k) ++ line (ascii "piece=") five-numbers
+  pieces-next =
+      ap pieceLines (sym (pieces-first flat (k + 1) n (omega arith)))
+      ∙ piece-laid (take (k + 1) (piecesOf flat n))
+      ∙ laid-next pieceLine noPiece (piecesOf flat n) k inside
+      ∙ ap₂ (λ (l m : List ℕ). l ++ m) before next-line
+
+  pub pieces-room : length (pieceLines (piecesOf flat k)) + length (line (ascii "piece=") five-numbers) ≤ length (pieceLines (piecesOf flat n))
+  pieces-room = omega (arith, laid-room pieceLine noPiece (piecesOf flat n) k inside, ap length before, ap length next-line, ap length (piece-laid (piecesOf flat n)))
+
+-- the part of the numbers that is a piece's
+pub five-part : (flat : List ℕ) (from k : ℕ) → from ≡ 5 * k → take (from + 5 - from) (drop from flat) ≡ take 5 (drop (5 * k) flat)
+five-part flat from k e =
+    let size : from + 5 - from ≡ 5 = omega arith in
+    rw (size, e)
+
+-- ---- A result
+
+pub result-size : (r : Run) → length (resultText r) ≡ length (verdictLine (r .verdict)) + length (numberLines resultKeys (resultNumbers r)) + length (maskLines (r .masks))
+unfolding resultText
+result-size r =
+    let lines = verdictLine (r .verdict) ++ numberLines resultKeys (resultNumbers r) in
+    omega (arith, length-append lines (maskLines (r .masks)), length-append (verdictLine (r .verdict)) (numberLines resultKeys (resultNumbers r)))
+
+-- ---- A layer
+
+module _ (s : Settings) (ps : List Piece) (buffer : List ℕ) where
+  -- what writing a valid layer comes to
+  pub valid-writes : 32_768 ≤ length buffer → Valid s ps → writeLayer s ps buffer ≡ done (layerText s ps)
+  unfolding writeLayer
+  valid-writes h valid = rw (le-leb 32_768 (length buffer) h, writeLayer) (rw valid)
+
+  -- and what it comes to where a question is answered with no
+  pub small-writes : length buffer < 32_768 → writeLayer s ps buffer ≡ refused 1 Place.Nothing
+  unfolding writeLayer
+  small-writes h = rw (lt-leb 32_768 (length buffer) h)
+
+  pub refused-writes : 32_768 ≤ length buffer → {number : ℕ} {place : Place} → judgeLayer s ps ≡ refused number place → writeLayer s ps buffer ≡ refused number place
+  unfolding writeLayer
+  refused-writes h e = rw (le-leb 32_768 (length buffer) h, e)

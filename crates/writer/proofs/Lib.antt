@@ -1,0 +1,2 @@
+-- Laws of what is written, each stated once.
+pub mod Laying
