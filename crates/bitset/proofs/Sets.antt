@@ -13,7 +13,7 @@ use lib.ListN.{length, getD, set, replicate, length-replicate, getD-replicate, L
 use lib.Seq.{getD-set-same, getD-set-other}
 use lib.Bits.{bitAnd, bitOr}
 use borrow.Author.Tests.{eq-eqb, ne-eqb, lt-ltb, le-ltb}
-use Rattle.bitset.specs.Bits.{bit, member, hasEdge, both, countBelow}
+use Rattle.bitset.specs.Bits.{bit, member, hasEdge, both, rowsWithout, countBelow}
 use Rattle.bitset.proofs.Counts.{count-add, count-ext}
 use Rattle.bitset.proofs.Words.{bit-and, bit-or, bit-not, bit-shl, bit-ones, bit-of-zero}
 
@@ -57,6 +57,13 @@ both-at adj i s w k l =
 pub both-word : (adj : List ℕ) (i : ℕ) (s : List ℕ) (w k : ℕ) → k < 64 → both adj i s (64 * w + k) ≡ bit (bitAnd (getD adj (8 * i + w) 0) (getD s w 0)) k
 both-word adj i s w k l = both-at adj i s w k l ∙ sym (bit-and _ _ k)
 
+-- those in a row of either matrix, in s and not in t
+pub rows-at : (a b : List ℕ) (i : ℕ) (s t : List ℕ) (w k : ℕ) → k < 64
+    → rowsWithout a b i s t (64 * w + k) ≡ ((bit (getD a (8 * i + w) 0) k || bit (getD b (8 * i + w) 0) k) && bit (getD s w 0) k && not (bit (getD t w 0) k))
+rows-at a b i s t w k l =
+    let e : 512 * i + (64 * w + k) ≡ 64 * (8 * i + w) + k = omega arith in
+    rw (e, member-at a (8 * i + w) k l, member-at b (8 * i + w) k l, member-at s w k l, member-at t w k l)
+
 -- one word more of a count of those
 pub both-next : (adj : List ℕ) (i : ℕ) (s : List ℕ) (w : ℕ)
     → countBelow (64 * (w + 1)) (both adj i s) ≡ countBelow (64 * w) (both adj i s) + countBelow 64 (λ k. bit (getD adj (8 * i + w) 0) k && bit (getD s w 0) k)
@@ -96,6 +103,17 @@ member-fill s w m n l h e p k = go (ℕ-discrete (k / 64) w)
     go : Dec (k / 64 ≡ w) → member (set s w (2 ^ m - 1)) k ≡ ltb k n
     go (yes q) = rw (member-new s w (2 ^ m - 1) k l q, bit-ones m (k % 64)) (same-ltb (k % 64) m k n (λ i. omega arith) (λ i. omega arith))
     go (no d) = rw (member-kept s w (2 ^ m - 1) k d, p k) (same-ltb k (64 * w) k n (λ i. omega arith) (λ i. omega arith))
+
+-- v is the word w of the test f, after the words before it
+pub member-next : (f : ℕ → Bool) (s : List ℕ) (w v : ℕ) → w < length s → ((i : ℕ) → i < 64 → bit v i ≡ f (64 * w + i))
+    → ((k : ℕ) → k < 64 * w → member s k ≡ f k) → (k : ℕ) → k < 64 * (w + 1) → member (set s w v) k ≡ f k
+member-next f s w v l word before k h = go (ℕ-discrete (k / 64) w)
+  where
+    go : Dec (k / 64 ≡ w) → member (set s w v) k ≡ f k
+    go (yes q) =
+        let e : 64 * w + k % 64 ≡ k = omega arith in
+        member-new s w v k l q ∙ rw e at (word (k % 64) (omega arith))
+    go (no n) = member-kept s w v k n ∙ before k (omega arith)
 
 -- one bit of a word is stored: j is the number at place p of the word w
 module _ (s : List ℕ) (w p j : ℕ) (l : w < length s) (h : p < 64) (e : 64 * w + p ≡ j) where

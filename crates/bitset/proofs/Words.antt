@@ -79,6 +79,12 @@ bit-not (suc w) a (suc j) h l =
     let e : ((2 ^ suc w - 1) - a) / 2 ≡ (2 ^ w - 1) - a / 2 = omega arith in
     rw (bit-suc ((2 ^ suc w - 1) - a) j, bit-suc a j, e) (bit-not w (a / 2) j (omega arith) (omega arith))
 
+-- `(a | b) & s & !t`, at w bits
+pub bit-without : (w a b s t j : ℕ) → t < 2 ^ w → j < w
+    → bit (bitAnd (bitAnd (bitOr a b) s) ((2 ^ w - 1) - t)) j ≡ ((bit a j || bit b j) && bit s j && not (bit t j))
+bit-without w a b s t j h l =
+    rw (bit-and (bitAnd (bitOr a b) s) ((2 ^ w - 1) - t) j, bit-and (bitOr a b) s j, bit-or a b j, bit-not w t j h l)
+
 pub bit-pow : (k j : ℕ) → bit (2 ^ k) j ≡ eqb j k
 bit-pow zero zero = bit-zero 1
 bit-pow zero (suc j) = bit-suc 1 j ∙ bit-of-zero j ∙ sym (eqb·suc-zero j)

@@ -26,6 +26,10 @@ hasEdge adj i j = member adj (512 * i + j)
 abbrev pub both : List ℕ → ℕ → List ℕ → ℕ → Bool
 both adj i s j = hasEdge adj i j && member s j
 
+-- whether j is in row i of either matrix and in the set s, and not in the set t
+abbrev pub rowsWithout : List ℕ → List ℕ → ℕ → List ℕ → List ℕ → ℕ → Bool
+rowsWithout a b i s t j = (hasEdge a i j || hasEdge b i j) && member s j && not (member t j)
+
 -- how many k below n pass the test f
 unfoldable pub countBelow : ℕ → (ℕ → Bool) → ℕ
 countBelow zero f = zero

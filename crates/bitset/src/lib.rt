@@ -8,7 +8,7 @@ ghost use mathlib.Core.Path.{_≡_};
 ghost use mathlib.Core.Bool.{_&&_, _||_, not, false};
 ghost use Prim.Native.Nat.{ℕ, _<_, _≤_};
 ghost use lib.Dec.{eqb, ltb};
-ghost use Rattle.bitset.specs.Bits.{bit, member, hasEdge, both, countBelow, Empty, Size, First, LowestSet, Dropped, Lowest, WithMask};
+ghost use Rattle.bitset.specs.Bits.{bit, member, hasEdge, both, rowsWithout, countBelow, Empty, Size, First, LowestSet, Dropped, Lowest, WithMask};
 
 // ---- sets
 
@@ -76,6 +76,17 @@ pub fn lowest(s: &[u64; 8]) -> usize
     512
 }
 
+// The members of either set.
+pub fn union_of(a: &[u64; 8], b: &[u64; 8]) -> [u64; 8]
+    ensures { λ r. ⌜ ((k : ℕ) → k < 512 → member r k ≡ (member (now (a .entry)) k || member (now (b .entry)) k)) ⌝ }
+{
+    let mut r = [0u64; 8];
+    for w in 0..8 {
+        r[w] = a[w] | b[w];
+    }
+    r
+}
+
 // ---- words
 
 // The lowest set bit of a word that is not 0.
@@ -99,6 +110,13 @@ fn shared(a: u64, b: u64) -> usize
     ensures { λ r. ⌜ r ≡ countBelow 64 (λ k. bit a k && bit b k) ⌝ }
 {
     u64::count_ones(a & b) as usize
+}
+
+// The bits that a or b and s have, and t has not.
+fn word_without(a: u64, b: u64, s: u64, t: u64) -> u64
+    ensures { λ r. ⌜ ((k : ℕ) → k < 64 → bit r k ≡ ((bit a k || bit b k) && bit s k && not (bit t k))) ⌝ }
+{
+    (a | b) & s & !t
 }
 
 // ---- rows of a matrix
@@ -129,6 +147,24 @@ pub fn lowest_in_row(adj: &[u64; 4096], i: usize, s: &[u64; 8]) -> usize
         w += 1;
     }
     512
+}
+
+// The members of s that are in row i of either matrix and not in t.
+pub fn rows_without(
+    a: &[u64; 4096],
+    b: &[u64; 4096],
+    i: usize,
+    s: &[u64; 8],
+    t: &[u64; 8],
+) -> [u64; 8]
+    requires { ⌜ i < 512 ⌝ }
+    ensures { λ r. ⌜ ((k : ℕ) → k < 512 → member r k ≡ rowsWithout (now (a .entry)) (now (b .entry)) i (now (s .entry)) (now (t .entry)) k) ⌝ }
+{
+    let mut r = [0u64; 8];
+    for w in 0..8 {
+        r[w] = word_without(a[8 * i + w], b[8 * i + w], s[w], t[w]);
+    }
+    r
 }
 
 // Whether row i has bit j: whether i and j are joined.

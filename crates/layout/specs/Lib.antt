@@ -1,3 +1,4 @@
 pub mod Flat
 pub mod Judged
 pub mod Adjacency
+pub mod Members

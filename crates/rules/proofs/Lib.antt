@@ -11,3 +11,4 @@ pub mod Reading
 pub mod Calls
 pub mod Ranges
 pub mod Edges
+pub mod Finding

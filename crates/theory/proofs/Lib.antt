@@ -12,5 +12,7 @@ pub mod Complete
 pub mod Renaming
 pub mod SearchAll
 pub mod Decomposition
+pub mod Neighbours
+pub mod EdgeLists
 pub mod Demand3
 pub mod Results

@@ -88,7 +88,8 @@ closure-more {g} {v} {inside} {outside} o j c = record {
       (List·Memᴰ·cases-cons i);
 }
 
-by-found : {P : Type 0} (o : Option ℕ) → (o ≡ none → P) → ((v : ℕ) → o ≡ some v → P) → P
+-- what holds where nothing was found and where v was found
+pub by-found : {P : Type 0} (o : Option ℕ) → (o ≡ none → P) → ((v : ℕ) → o ≡ some v → P) → P
 by-found none n s = n refl
 by-found (some v) n s = s v refl
 

@@ -39,7 +39,7 @@ module _ (K : ℕ) where
 -- ---- Masks in use
 
 -- one mask more is one different mask more, if it is new
-different-snoc : (p : List ℕ) (m : ℕ) → different (p ++ (m ∷ [])) ≡ different p + given (not (occurs m p)) 1
+pub different-snoc : (p : List ℕ) (m : ℕ) → different (p ++ (m ∷ [])) ≡ different p + given (not (occurs m p)) 1
 unfolding different anyOf
 different-snoc [] m = refl
 different-snoc (x ∷ p) m =

@@ -1,0 +1,4 @@
+-- What the function's proof cites: a part that grows by a frontier, the words as a graph whose edges go both ways, and one turn of the loop.
+pub mod Frontier
+pub mod BoundedGraph
+pub mod Turns

@@ -1,0 +1,19 @@
+-- What the component of a vertex is, as a bit set. Assumes nothing: these are definitions.
+use mathlib.Core.Bool.{true}
+use mathlib.Core.List.{List, _∷_}
+use mathlib.Core.Path.{_≡_}
+use Prim.Native.Nat.{ℕ, _<_}
+use Rattle.bitset.specs.Bits.{member, hasEdge}
+use Rattle.rules.specs.Components.{componentOf}
+use Rattle.layout.specs.Adjacency.{wordGraph}
+use Rattle.layout.specs.Members.{membersOf}
+
+-- the words join two vertices both ways or not at all
+abbrev pub BothWays : List ℕ → Type 0
+BothWays words = (a b : ℕ) → a < 512 → b < 512 → hasEdge words a b ≡ hasEdge words b a
+
+-- The set r is the component of v among those left: the rules' component where v is the lowest of them.
+pub record IsComponent (conflictWords stitchWords left : List ℕ) (v : ℕ) (r : List ℕ) : Type 0 where
+  pub component : (after : List ℕ) → membersOf left ≡ v ∷ after → membersOf r ≡ componentOf (wordGraph conflictWords stitchWords) v after
+  pub within : (k : ℕ) → k < 512 → member r k ≡ true → member left k ≡ true
+  pub first : member r v ≡ true
