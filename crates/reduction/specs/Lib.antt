@@ -1,0 +1,2 @@
+pub mod Removals
+pub mod Returning
