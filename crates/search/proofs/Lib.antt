@@ -1,0 +1,5 @@
+-- Laws of a local problem.
+pub mod Rows
+pub mod Moves
+pub mod Firsts
+pub mod FromFirst

@@ -1,0 +1,284 @@
+-- What each way through the search's two functions does to its state, over plain values: the functions' proofs hand these what the code gives.
+-- Assumes nothing.
+use mathlib.Core.Bool.{Bool, true, _||_}
+use mathlib.Core.List.{List, [], _∷_, _++_}
+use mathlib.Core.Logic.{_⊎_, ⊎-elim}
+use mathlib.Core.Path.{_≡_, refl, sym, ap, ap₂, subst⁻¹, _∙_}
+use Prim.Native.Nat.{ℕ, zero, suc, _+_, _-_, _≤_, _<_, min}
+use native.Mathlib.Numerals.{add-one}
+use native.Mathlib.Omega.{arith}
+use lib.Dec.{eqb, ltb}
+use lib.ListN.{length, getD, take, set, length-set}
+use lib.Seq.{take-take, take-set-le, take-suc-set, getD-take, getD-set-same, getD-set-other, length-take-le}
+use borrow.Author.Tests.{lt-ltb, le-ltb, ltb-true, eq-eqb, ne-eqb}
+use Rattle.rules.specs.Basics.{upFrom, anyOf, occurs}
+use Rattle.rules.specs.Search.{different, candidates, State, state, step, tryMasks, searchPlaces}
+use Rattle.rules.proofs.Lists.{any-snoc}
+use Rattle.rules.proofs.Tests.{lt-or-ge, by-test}
+use Rattle.theory.proofs.Renaming.{different-snoc}
+use Rattle.theory.proofs.Search.{at-stop, at-enter, at-skip}
+use Rattle.places.specs.Local.{localAdded, PlaceLists}
+use Rattle.search.specs.Branch.{sizeIn, masksIn, weightIn, budgetIn, triedIn, stateIn, placesFrom, Ready, RowOf, Kept, Placed, Masked}
+use Rattle.search.proofs.Rows.{added-most}
+
+-- ---- Lists of masks
+
+-- the masks before p and the one stored there
+pub take-stored : (l : List ℕ) (p m : ℕ) → p < length l → take (p + 1) (set l p m) ≡ take p l ++ (m ∷ [])
+take-stored l p m h = rw (add-one, take-suc-set l p m h)
+
+take-shorter : (l k : List ℕ) (p : ℕ) → take (p + 1) l ≡ take (p + 1) k → take p l ≡ take p k
+take-shorter l k p e = sym (take-take p (p + 1) l (omega arith)) ∙ ap (take p) e ∙ take-take p (p + 1) k (omega arith)
+
+occurs-at : (q : List ℕ) (i : ℕ) → i < length q → occurs (getD q i 0) q ≡ true
+unfolding anyOf
+occurs-at [] i h = absurd (omega arith)
+occurs-at (x ∷ q) zero h = rw (eq-eqb x x refl)
+occurs-at (x ∷ q) (suc i) h = by-test (eqb (getD q i 0) x) (λ e. rw e) (λ e. rw e (occurs-at q i (omega arith)))
+
+-- one mask more, at most u
+below-next : (u m v x : ℕ) → ((m < u) × (v ≡ u)) ⊎ ((m ≡ u) × (v ≡ u + 1)) → (ltb x u || eqb x m) ≡ ltb x v
+below-next u m v x w =
+    ⊎-elim
+    (λ l. ⊎-elim
+    (λ b. rw (lt-ltb x u b, lt-ltb x v l))
+    (λ b. rw (le-ltb x u b, lt-ltb x v l) (eq-eqb x m (⊎-elim (λ q. absurd (omega (arith, q .1))) (λ q. omega (arith, q .0, q .1)) w)))
+    (lt-or-ge x u))
+    (λ l. rw (
+      le-ltb x u (⊎-elim (λ q. omega (arith, q .1)) (λ q. omega (arith, q .1)) w),
+      le-ltb x v l,
+      ne-eqb x m (λ z. ⊎-elim (λ q. omega (arith, q .0, q .1)) (λ q. omega (arith, q .0, q .1)) w),
+    ))
+    (lt-or-ge x v)
+
+count-next : (q : List ℕ) (u m v : ℕ) → different q ≡ u → ((x : ℕ) → occurs x q ≡ ltb x u) → ((m < u) × (v ≡ u)) ⊎ ((m ≡ u) × (v ≡ u + 1)) → different (q ++ (m ∷ [])) ≡ v
+count-next q u m v e b w = ⊎-elim
+    (λ h. different-snoc q m ∙ rw (b m ∙ lt-ltb m u (h .0)) (omega (arith, h .1)))
+    (λ h. different-snoc q m ∙ rw (b m ∙ le-ltb m u (omega (arith, h .0))) (omega (arith, h .1)))
+    w
+
+-- ---- When the next call may be made
+
+module _ {starts list partial numbers : List ℕ} {p c u left : ℕ} (ready : Ready starts list partial numbers p c u left) where
+  -- the masks before p are masks
+  pub ready-masks : (i : ℕ) → i < p → getD partial i 0 < 8
+  ready-masks i h =
+      let size : length (take p partial) ≡ p = length-take-le p partial (omega (arith, ready .at, ready .few, ready .whole)) in
+      let there = occurs-at (take p partial) i (omega arith) in
+      let low = ltb-true _ u (sym (ready .below (getD (take p partial) i 0)) ∙ there) in
+      omega (arith, low, getD-take p partial i 0 h, ready .within, ready .masks)
+
+  -- a mask is stored at p, and costs what the row says
+  pub ready-next : (m r v : ℕ) → p < sizeIn numbers → r ≤ 131_715_584 → ((m < u) × (v ≡ u)) ⊎ ((m ≡ u) × (v ≡ u + 1)) → m < masksIn numbers → 1 ≤ left
+      → Ready starts list (set partial p m) numbers (p + 1) (c + r) v (left - 1)
+  ready-next m r v h small w l more =
+      let stored = take-stored partial p m (omega (arith, ready .whole, ready .few)) in
+      record {
+        few = ready .few;
+        some = ready .some;
+        masks = ready .masks;
+        weight = ready .weight;
+        lists = ready .lists;
+        whole = simp length-set (ready .whole);
+        numbered = ready .numbered;
+        at = omega arith;
+        cheap = omega (arith, ready .cheap);
+        within = ⊎-elim (λ q. omega (arith, q .1, ready .within)) (λ q. omega (arith, q .0, q .1)) w;
+        count = ap different stored ∙ count-next (take p partial) u m v (ready .count) (ready .below) w;
+        below = λ x. ap (occurs x) stored ∙ any-snoc (eqb x) (take p partial) m ∙ ap (λ (b : Bool). b || eqb x m) (ready .below x) ∙ below-next u m v x w;
+        afford = omega (arith, ready .afford);
+      }
+
+  -- after a call that left it so
+  pub ready-same : {partial′ numbers′ : List ℕ} {left′ : ℕ} → Kept partial partial′ numbers numbers′ p left left′ → Ready starts list partial′ numbers′ p c u left′
+  ready-same {partial′} {numbers′} k =
+      let size = k .constants 2 (omega arith) in
+      let masks = k .constants 3 (omega arith) in
+      record {
+        few = omega (arith, ready .few);
+        some = omega (arith, ready .some);
+        masks = omega (arith, ready .masks);
+        weight = omega (arith, ready .weight, k .constants 4 (omega arith));
+        lists = λ j l. ready .lists j (omega arith);
+        whole = k .whole;
+        numbered = k .numbered;
+        at = omega (arith, ready .at);
+        cheap = ready .cheap;
+        within = omega (arith, ready .within);
+        count = ap different (k .before) ∙ ready .count;
+        below = λ m. ap (occurs m) (k .before) ∙ ready .below m;
+        afford = omega (arith, ready .afford, k .fewer, k .constants 5 (omega arith));
+      }
+
+  -- nothing was done
+  kept-all : Kept partial partial numbers numbers p left left
+  kept-all = record { before = refl; whole = ready .whole; numbered = ready .numbered; constants = λ i h. refl; fewer = omega arith }
+
+  -- what a mask adds is small
+  pub added-small : p < sizeIn numbers → (m : ℕ) → localAdded (weightIn numbers) starts list (take p partial) m ≤ 131_715_584
+  added-small h m =
+      let size : length (take p partial) ≡ p = length-take-le p partial (omega (arith, ready .at, ready .few, ready .whole)) in
+      added-most (weightIn numbers) starts list (take p partial) m (ready .weight) (subst⁻¹ (PlaceLists starts list) size (ready .lists p h))
+
+-- ---- The numbers
+
+-- a number stored at 0 or 1 leaves the constants
+set-constants : (numbers : List ℕ) (i x : ℕ) → i < 2 → (j : ℕ) → 2 ≤ j → getD (set numbers i x) j 0 ≡ getD numbers j 0
+set-constants numbers i x h j l = getD-set-other numbers i j x 0 (λ e. omega arith)
+
+-- the state is made of six numbers and the incumbent
+state-path : {n n′ c c′ : ℕ} {b b′ : Bool} {h h′ : List ℕ} → n ≡ n′ → b ≡ b′ → c ≡ c′ → h ≡ h′ → state n b c h ≡ state n′ b′ c′ h′
+state-path e f g k = λ i. state (e i) (f i) (g i) (k i)
+
+module _ (starts list partial incumbent numbers : List ℕ) (p c u left m more : ℕ) (ready : Ready starts list partial numbers p c u left) where
+  abbrev add : List ℕ → ℕ → ℕ
+  add = localAdded (weightIn numbers) starts list
+
+  abbrev next : List ℕ → ℕ → State → State
+  next = placesFrom starts list numbers (suc p)
+
+  -- one step of those that are left
+  one-step : 1 ≤ left → step (stateIn incumbent numbers left) ≡ stateIn incumbent numbers (left - 1)
+  one-step h = let n : suc (budgetIn numbers - left) ≡ budgetIn numbers - (left - 1) = omega (arith, ready .afford) in state-path n refl refl refl
+
+  up-more : 1 ≤ more → upFrom m more ≡ m ∷ upFrom (m + 1) (more - 1)
+  unfolding upFrom
+  up-more h = let e : more ≡ suc (more - 1) = omega arith in ap (upFrom m) e ∙ ap (λ (k : ℕ). m ∷ upFrom k (more - 1)) (sym (add-one m))
+
+  -- no mask is left
+  pub masked-none : more ≡ 0 → Masked starts list partial partial incumbent incumbent numbers numbers p c left m more left
+  unfolding tryMasks upFrom
+  masked-none e = record { searched = rw e; kept = kept-all ready }
+
+  -- the budget is used up
+  pub masked-stop : 1 ≤ more → left ≡ 0 → Masked starts list partial partial incumbent incumbent numbers (set numbers 1 1) p c left m more 0
+  masked-stop h e =
+      let there : 1 < length numbers = omega (arith, ready .numbered) in
+      let constants = set-constants numbers 1 1 (omega arith) in
+      let s = stateIn incumbent numbers left in
+      let spent : budgetIn numbers ≤ s .steps = omega arith in
+      let steps : budgetIn (set numbers 1 1) - 0 ≡ budgetIn numbers - left = omega (arith, constants 5 (omega arith)) in
+      let flag : eqb (getD (set numbers 1 1) 1 0) 1 ≡ true = eq-eqb (getD (set numbers 1 1) 1 0) 1 (getD-set-same numbers 1 1 0 there) in
+      let cost : getD (set numbers 1 1) 0 0 ≡ getD numbers 0 0 = getD-set-other numbers 1 0 1 0 (λ q. omega arith) in
+      record {
+        searched = state-path steps flag cost (ap (λ (k : ℕ). take k incumbent) (constants 2 (omega arith)))
+            ∙ sym (ap (λ (ms : List ℕ). tryMasks add (budgetIn numbers) next ms (take p partial) c s) (up-more h)
+            ∙ at-stop add (budgetIn numbers) next m (upFrom (m + 1) (more - 1)) (take p partial) c s spent);
+        kept = record { before = refl; whole = ready .whole; numbered = simp length-set (ready .numbered); constants = constants; fewer = omega arith };
+      }
+
+  module _ (r : ℕ) (some : 1 ≤ more) (afford : 1 ≤ left) (adds : r ≡ add (take p partial) m) where
+    in-budget : stateIn incumbent numbers left .steps < budgetIn numbers
+    in-budget = omega (arith, ready .afford)
+
+    -- the mask costs too much
+    pub masked-skip : {partial₂ incumbent₂ numbers₂ : List ℕ} {left₂ : ℕ} → getD numbers 0 0 ≤ c + r
+        → Masked starts list partial partial₂ incumbent incumbent₂ numbers numbers₂ p c (left - 1) (m + 1) (more - 1) left₂
+        → Masked starts list partial partial₂ incumbent incumbent₂ numbers numbers₂ p c left m more left₂
+    masked-skip dear rest = record {
+      searched = rest .searched
+          ∙ ap (λ (s : State). tryMasks add (budgetIn numbers) next (upFrom (m + 1) (more - 1)) (take p partial) c s) (sym (one-step afford))
+          ∙ sym (at-skip add (budgetIn numbers) next m (upFrom (m + 1) (more - 1)) (take p partial) c (stateIn incumbent numbers left) in-budget (omega (arith, adds)))
+          ∙ ap (λ (ms : List ℕ). tryMasks add (budgetIn numbers) next ms (take p partial) c (stateIn incumbent numbers left)) (sym (up-more some));
+      kept = record {
+        before = rest .kept .before;
+        whole = rest .kept .whole;
+        numbered = rest .kept .numbered;
+        constants = rest .kept .constants;
+        fewer = omega (arith, rest .kept .fewer);
+      };
+    }
+
+    module _ {partial₁ incumbent₁ numbers₁ : List ℕ} {left₁ : ℕ} (place : p < sizeIn numbers)
+        (one : Placed starts list (set partial p m) partial₁ incumbent incumbent₁ numbers numbers₁ (p + 1) (c + r) (left - 1) left₁) where
+      -- what the search from the next place leaves
+      pub kept-below : Kept partial partial₁ numbers numbers₁ p left left₁
+      kept-below = record {
+        before = take-shorter partial₁ (set partial p m) p (one .kept .before) ∙ take-set-le p partial p m (omega arith);
+        whole = one .kept .whole;
+        numbered = one .kept .numbered;
+        constants = one .kept .constants;
+        fewer = omega (arith, one .kept .fewer);
+      }
+
+      entered : stateIn incumbent₁ numbers₁ left₁ ≡ next (take p partial ++ (m ∷ [])) (c + add (take p partial) m) (step (stateIn incumbent numbers left))
+      entered =
+          let stored = take-stored partial p m (omega (arith, ready .whole, ready .few)) in
+          one .searched
+          ∙ ap (λ (k : ℕ). placesFrom starts list numbers k (take (p + 1) (set partial p m)) (c + r) (stateIn incumbent numbers (left - 1))) (add-one p)
+          ∙ ap₂ (λ (q : List ℕ) (x : ℕ). next q (c + x) (stateIn incumbent numbers (left - 1))) stored adds
+          ∙ ap (λ (s : State). next (take p partial ++ (m ∷ [])) (c + add (take p partial) m) s) (sym (one-step afford))
+
+      -- the mask holds, and the search goes on from the next place
+      pub masked-enter : {partial₂ incumbent₂ numbers₂ : List ℕ} {left₂ : ℕ} → c + r < getD numbers 0 0
+          → Masked starts list partial₁ partial₂ incumbent₁ incumbent₂ numbers₁ numbers₂ p c left₁ (m + 1) (more - 1) left₂
+          → Masked starts list partial partial₂ incumbent incumbent₂ numbers numbers₂ p c left m more left₂
+      masked-enter cheap rest =
+          let size = one .kept .constants 2 (omega arith) in
+          let masks = one .kept .constants 3 (omega arith) in
+          let weight = one .kept .constants 4 (omega arith) in
+          let budget = one .kept .constants 5 (omega arith) in
+          let before = kept-below .before in
+          let rules : tryMasks (localAdded (weightIn numbers₁) starts list) (budgetIn numbers₁) (placesFrom starts list numbers₁ (suc p)) (upFrom (m + 1) (more - 1)) (take p partial₁) c (stateIn incumbent₁ numbers₁ left₁)
+          ≡ tryMasks add (budgetIn numbers) next (upFrom (m + 1) (more - 1)) (take p partial) c (next (take p partial ++ (m ∷ [])) (c + add (take p partial) m) (step (stateIn incumbent numbers left)))
+          = cc (size, masks, weight, budget, before, entered) in
+          record {
+            searched = rest .searched
+                ∙ rules
+                ∙ sym (at-enter add (budgetIn numbers) next m (upFrom (m + 1) (more - 1)) (take p partial) c (stateIn incumbent numbers left) in-budget (omega (arith, adds)))
+                ∙ ap (λ (ms : List ℕ). tryMasks add (budgetIn numbers) next ms (take p partial) c (stateIn incumbent numbers left)) (sym (up-more some));
+            kept = record {
+              before = rest .kept .before ∙ before;
+              whole = rest .kept .whole;
+              numbered = rest .kept .numbered;
+              constants = λ i h. rest .kept .constants i h ∙ one .kept .constants i h;
+              fewer = omega (arith, rest .kept .fewer, kept-below .fewer);
+            };
+          }
+
+-- ---- A place
+
+module _ (starts list partial incumbent numbers : List ℕ) (p c u left : ℕ) (ready : Ready starts list partial numbers p c u left) where
+  -- all its masks
+  pub placed-masks : {partial₁ incumbent₁ numbers₁ : List ℕ} {left₁ : ℕ} (more : ℕ) → p < sizeIn numbers → more ≡ triedIn numbers u
+      → Masked starts list partial partial₁ incumbent incumbent₁ numbers numbers₁ p c left 0 more left₁
+      → Placed starts list partial partial₁ incumbent incumbent₁ numbers numbers₁ p c left left₁
+  unfolding searchPlaces candidates
+  placed-masks more h e masks =
+      let places : sizeIn numbers - p ≡ suc (sizeIn numbers - suc p) = omega arith in
+      let all : more ≡ suc (min (different (take p partial)) (masksIn numbers - 1)) = omega (arith, ready .count, ready .some) in
+      record {
+        searched = masks .searched
+            ∙ ap (λ (k : ℕ). tryMasks (localAdded (weightIn numbers) starts list) (budgetIn numbers) (placesFrom starts list numbers (suc p)) (upFrom 0 k) (take p partial) c (stateIn incumbent numbers left)) all
+            ∙ sym (ap (λ (k : ℕ). searchPlaces (localAdded (weightIn numbers) starts list) (candidates (masksIn numbers)) (budgetIn numbers) k (take p partial) c (stateIn incumbent numbers left)) places);
+        kept = masks .kept;
+      }
+
+  -- past the last place
+  pub placed-last : sizeIn numbers ≤ p → Placed starts list partial partial incumbent partial numbers (set numbers 0 c) p c left left
+  unfolding searchPlaces
+  placed-last h =
+      let none-left : sizeIn numbers - p ≡ 0 = omega arith in
+      let end : sizeIn numbers ≡ p = omega (arith, ready .at) in
+      let constants = set-constants numbers 0 c (omega arith) in
+      let there : 0 < length numbers = omega (arith, ready .numbered) in
+      record {
+        searched = state-path
+            (ap (λ (b : ℕ). b - left) (constants 5 (omega arith)))
+            (ap (λ (x : ℕ). eqb x 1) (getD-set-other numbers 0 1 c 0 (λ q. omega arith)))
+            (getD-set-same numbers 0 c 0 there)
+            (ap (λ (k : ℕ). take k partial) (constants 2 (omega arith) ∙ end))
+            ∙ sym (ap (λ (k : ℕ). searchPlaces (localAdded (weightIn numbers) starts list) (candidates (masksIn numbers)) (budgetIn numbers) k (take p partial) c (stateIn incumbent numbers left)) none-left);
+        kept = record { before = refl; whole = ready .whole; numbered = simp length-set (ready .numbered); constants = constants; fewer = omega arith };
+      }
+
+-- the row stays that of place p
+pub row-same : {starts list partial partial′ numbers numbers′ : List ℕ} {p left left′ : ℕ} {row : List ℕ}
+    → RowOf starts list partial numbers p row → Kept partial partial′ numbers numbers′ p left left′ → RowOf starts list partial′ numbers′ p row
+row-same {starts} {list} r k =
+    let before = k .before in
+    let weight = k .constants 4 (omega arith) in
+    record {
+      adds = λ m h. r .adds m h ∙ ap₂ (λ (w : ℕ) (q : List ℕ). localAdded w starts list q m) (sym weight) (sym before);
+      small = r .small;
+    }

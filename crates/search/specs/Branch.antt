@@ -1,0 +1,71 @@
+-- What the search's functions say: the numbers of a search, when a call may be made, and what it leaves. Assumes nothing: these are definitions.
+use mathlib.Core.List.{List}
+use mathlib.Core.Path.{_≡_}
+use Prim.Native.Nat.{ℕ, suc, _-_, _*_, _≤_, _<_, min}
+use lib.Dec.{eqb, ltb}
+use lib.ListN.{length, getD, take}
+use Rattle.rules.specs.Basics.{upFrom, occurs}
+use Rattle.rules.specs.Search.{different, candidates, State, state, tryMasks, searchPlaces}
+use Rattle.places.specs.Local.{localAdded, PlaceLists}
+
+abbrev pub sizeIn : List ℕ → ℕ
+sizeIn numbers = getD numbers 2 0
+
+abbrev pub masksIn : List ℕ → ℕ
+masksIn numbers = getD numbers 3 0
+
+abbrev pub weightIn : List ℕ → ℕ
+weightIn numbers = getD numbers 4 0
+
+abbrev pub budgetIn : List ℕ → ℕ
+budgetIn numbers = getD numbers 5 0
+
+-- how many masks are tried where u different ones are in use
+abbrev pub triedIn : List ℕ → ℕ → ℕ
+triedIn numbers u = min (suc u) (masksIn numbers)
+
+-- where the search stands, with so many steps left of its budget
+abbrev pub stateIn : List ℕ → List ℕ → ℕ → State
+stateIn incumbent numbers left = state (budgetIn numbers - left) (eqb (getD numbers 1 0) 1) (getD numbers 0 0) (take (sizeIn numbers) incumbent)
+
+-- the search of the rules on the local problem, from a place on
+abbrev pub placesFrom : List ℕ → List ℕ → List ℕ → ℕ → List ℕ → ℕ → State → State
+placesFrom starts list numbers k = searchPlaces (localAdded (weightIn numbers) starts list) (candidates (masksIn numbers)) (budgetIn numbers) (sizeIn numbers - k)
+
+-- The local problem and the masks before place p: they cost c, at most so much for each place, and are those below u.
+pub record Ready (starts list partial numbers : List ℕ) (p c u left : ℕ) : Type 0 where
+  pub few : sizeIn numbers ≤ 512
+  pub some : 1 ≤ masksIn numbers
+  pub masks : masksIn numbers ≤ 8
+  pub weight : weightIn numbers ≤ 1000
+  pub lists : (k : ℕ) → k < sizeIn numbers → PlaceLists starts list k
+  pub whole : length partial ≡ 512
+  pub numbered : length numbers ≡ 6
+  pub at : p ≤ sizeIn numbers
+  pub cheap : c ≤ 131_715_584 * p
+  pub within : u ≤ masksIn numbers
+  pub count : different (take p partial) ≡ u
+  pub below : (m : ℕ) → occurs m (take p partial) ≡ ltb m u
+  pub afford : left ≤ budgetIn numbers
+
+-- the row of what masks add at place p
+pub record RowOf (starts list partial numbers : List ℕ) (p : ℕ) (row : List ℕ) : Type 0 where
+  pub adds : (m : ℕ) → m < 8 → getD row m 0 ≡ localAdded (weightIn numbers) starts list (take p partial) m
+  pub small : (m : ℕ) → m < 8 → getD row m 0 ≤ 131_715_584
+
+-- what a call leaves as it was
+pub record Kept (partial partial′ numbers numbers′ : List ℕ) (p left left′ : ℕ) : Type 0 where
+  pub before : take p partial′ ≡ take p partial
+  pub whole : length partial′ ≡ 512
+  pub numbered : length numbers′ ≡ 6
+  pub constants : (i : ℕ) → 2 ≤ i → getD numbers′ i 0 ≡ getD numbers i 0
+  pub fewer : left′ ≤ left
+
+pub record Placed (starts list partial partial′ incumbent incumbent′ numbers numbers′ : List ℕ) (p c left left′ : ℕ) : Type 0 where
+  pub searched : stateIn incumbent′ numbers′ left′ ≡ placesFrom starts list numbers p (take p partial) c (stateIn incumbent numbers left)
+  pub kept : Kept partial partial′ numbers numbers′ p left left′
+
+pub record Masked (starts list partial partial′ incumbent incumbent′ numbers numbers′ : List ℕ) (p c left m more left′ : ℕ) : Type 0 where
+  pub searched : stateIn incumbent′ numbers′ left′
+      ≡ tryMasks (localAdded (weightIn numbers) starts list) (budgetIn numbers) (placesFrom starts list numbers (suc p)) (upFrom m more) (take p partial) c (stateIn incumbent numbers left)
+  pub kept : Kept partial partial′ numbers numbers′ p left left′

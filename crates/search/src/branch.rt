@@ -1,0 +1,149 @@
+// The search over the places of a component (document 01: the walk), by two functions that call each other, one for a place and one for its
+// masks. What changes seldom lies in lent arrays, so that a step passes and returns few numbers.
+//
+// The numbers of a search: at 0 the incumbent's cost, at 1 whether a step was due beyond the budget (1 if so), at 2 how many places there are,
+// at 3 the masks, at 4 the weight, at 5 the budget. Those from 2 on do not change.
+ghost use mathlib.Core.Path.{_≡_};
+ghost use Prim.Native.Nat.{_+_, _<_};
+ghost use lib.ListN.{set};
+ghost use Rattle.search.specs.Branch.{Ready, RowOf, Placed, Masked, sizeIn, triedIn};
+use crate::row::added_row;
+
+// The partial assignment becomes the incumbent.
+pub fn hold(partial: &[u8; 512], incumbent: &mut [u8; 512])
+    ensures { λ _. ⌜ now (incumbent .exit) ≡ now (partial .entry) ⌝ }
+{
+    *incumbent = *partial;
+}
+
+// Stores one of the numbers.
+pub fn store(numbers: &mut [u64; 6], i: usize, x: u64)
+    requires { ⌜ i < 6 ⌝ }
+    ensures { λ _. ⌜ now (numbers .exit) ≡ set (now (numbers .entry)) i x ⌝ }
+{
+    let all: &mut [u64] = numbers;
+    all[i] = x;
+}
+
+// Stores a mask at a place.
+pub fn put(partial: &mut [u8; 512], i: usize, m: u8)
+    requires { ⌜ i < 512 ⌝ }
+    ensures { λ _. ⌜ now (partial .exit) ≡ set (now (partial .entry)) i m ⌝ }
+{
+    let all: &mut [u8] = partial;
+    all[i] = m;
+}
+
+// Searches the places from p on, where those before it have the masks of `partial`, which cost `cost` and are `used` different ones, and
+// `left` steps are left. Answers how many are left then.
+pub fn search_place(
+    starts: &[u32; 1025],
+    list: &[u16; 131584],
+    partial: &mut [u8; 512],
+    incumbent: &mut [u8; 512],
+    numbers: &mut [u64; 6],
+    p: usize,
+    cost: u64,
+    used: u64,
+    left: u64,
+) -> u64
+    requires { ⌜ Ready (now starts) (now list) (now partial) (now numbers) p cost used left ⌝ }
+    ensures { λ r. ⌜ Placed (now (starts .entry)) (now (list .entry)) (now (partial .entry)) (now (partial .exit)) (now (incumbent .entry)) (now (incumbent .exit)) (now (numbers .entry)) (now (numbers .exit)) p cost left r ⌝ }
+{
+    if numbers[2] <= p as u64 {
+        hold(partial, incumbent);
+        store(numbers, 0, cost);
+        return left;
+    }
+    let row = added_row(starts, list, partial, p, numbers[4]);
+    let masks = numbers[3];
+    let more = if used < masks { used + 1 } else { masks };
+    search_masks(
+        starts,
+        list,
+        partial,
+        incumbent,
+        numbers,
+        p,
+        cost,
+        used,
+        left,
+        &row,
+        0,
+        more,
+    )
+}
+
+// Tries `more` masks from m on at place p, where mask m adds what the row has at m.
+fn search_masks(
+    starts: &[u32; 1025],
+    list: &[u16; 131584],
+    partial: &mut [u8; 512],
+    incumbent: &mut [u8; 512],
+    numbers: &mut [u64; 6],
+    p: usize,
+    cost: u64,
+    used: u64,
+    left: u64,
+    row: &[u64; 8],
+    m: u64,
+    more: u64,
+) -> u64
+    requires { ⌜ Ready (now starts) (now list) (now partial) (now numbers) p cost used left ⌝ }
+    requires { ⌜ RowOf (now starts) (now list) (now partial) (now numbers) p (now row) ⌝ }
+    requires { ⌜ (p < sizeIn (now numbers)) × (m + more ≡ triedIn (now numbers) used) ⌝ }
+    ensures { λ r. ⌜ Masked (now (starts .entry)) (now (list .entry)) (now (partial .entry)) (now (partial .exit)) (now (incumbent .entry)) (now (incumbent .exit)) (now (numbers .entry)) (now (numbers .exit)) p cost left m more r ⌝ }
+{
+    if more == 0 {
+        return left;
+    }
+    if left == 0 {
+        store(numbers, 1, 1);
+        return 0;
+    }
+    let total = cost + row[m as usize];
+    if total < numbers[0] {
+        put(partial, p, m as u8);
+        let next = if m < used { used } else { used + 1 };
+        let rest = search_place(
+            starts,
+            list,
+            partial,
+            incumbent,
+            numbers,
+            p + 1,
+            total,
+            next,
+            left - 1,
+        );
+        search_masks(
+            starts,
+            list,
+            partial,
+            incumbent,
+            numbers,
+            p,
+            cost,
+            used,
+            rest,
+            row,
+            m + 1,
+            more - 1,
+        )
+    } else {
+        search_masks(
+            starts,
+            list,
+            partial,
+            incumbent,
+            numbers,
+            p,
+            cost,
+            used,
+            left - 1,
+            row,
+            m + 1,
+            more - 1,
+        )
+    }
+}

@@ -1,0 +1,42 @@
+// The search of one component, from its first assignment on.
+ghost use Rattle.search.specs.Component.{Posed, Searched};
+use crate::branch::hold;
+use crate::branch::search_place;
+use crate::branch::store;
+use crate::first::first_assignment;
+
+// Leaves the best masks that were found in `incumbent`, and their cost and whether the search was stopped in `numbers`, where the rest is
+// given. Answers how many of the `left` steps are left then.
+pub fn search_component(
+    starts: &[u32; 1025],
+    list: &[u16; 131584],
+    incumbent: &mut [u8; 512],
+    numbers: &mut [u64; 6],
+    left: u64,
+) -> u64
+    requires { ⌜ Posed (now starts) (now list) (now numbers) left ⌝ }
+    ensures { λ r. ⌜ Searched (now (starts .entry)) (now (list .entry)) (now (incumbent .exit)) (now (numbers .entry)) (now (numbers .exit)) left r ⌝ }
+{
+    let mut partial = [0u8; 512];
+    let cost = first_assignment(
+        starts,
+        list,
+        &mut partial,
+        numbers[2] as usize,
+        numbers[3],
+        numbers[4],
+    );
+    hold(&partial, incumbent);
+    store(numbers, 0, cost);
+    search_place(
+        starts,
+        list,
+        &mut partial,
+        incumbent,
+        numbers,
+        0,
+        0,
+        0,
+        left,
+    )
+}

@@ -1,0 +1,50 @@
+// The first assignment of a component: place after place takes the mask that adds least. The search starts from it.
+ghost use mathlib.Core.Path.{_≡_};
+ghost use Prim.Native.Nat.{ℕ, _≤_, _<_};
+ghost use lib.ListN.{length, getD};
+ghost use Rattle.rules.specs.Search.{cheapest};
+ghost use Rattle.places.specs.Local.{PlaceLists};
+ghost use Rattle.search.specs.First.{FirstOf};
+use crate::branch::put;
+use crate::row::added_row;
+
+// The mask at which the row is least, the lowest on a tie.
+fn cheapest_mask(row: &[u64; 8], masks: u64) -> u64
+    requires { ⌜ (1 ≤ masks) × (masks ≤ 8) ⌝ }
+    ensures { λ r. ⌜ r ≡ cheapest (λ m. getD (now (row .entry)) m 0) masks ⌝ }
+{
+    let mut best = 0;
+    let mut m = 1;
+    while m < masks {
+        if row[m as usize] < row[best as usize] {
+            best = m;
+        }
+        m += 1;
+    }
+    best
+}
+
+// Fills the places below `size`, and answers what that costs.
+pub fn first_assignment(
+    starts: &[u32; 1025],
+    list: &[u16; 131584],
+    partial: &mut [u8; 512],
+    size: usize,
+    masks: u64,
+    weight: u64,
+) -> u64
+    requires { ⌜ (size ≤ 512) × (1 ≤ masks) × (masks ≤ 8) × (weight ≤ 1000) × (length (now partial) ≡ 512) ⌝ }
+    requires { ⌜ ((k : ℕ) → k < size → PlaceLists (now starts) (now list) k) ⌝ }
+    ensures { λ r. ⌜ FirstOf masks weight (now (starts .entry)) (now (list .entry)) size (now (partial .exit)) r ⌝ }
+{
+    let mut cost = 0;
+    let mut k = 0;
+    while k < size {
+        let row = added_row(starts, list, partial, k, weight);
+        let m = cheapest_mask(&row, masks);
+        put(partial, k, m as u8);
+        cost += row[m as usize];
+        k += 1;
+    }
+    cost
+}
