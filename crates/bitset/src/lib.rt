@@ -87,6 +87,17 @@ pub fn union_of(a: &[u64; 8], b: &[u64; 8]) -> [u64; 8]
     r
 }
 
+// The members of a that are not in b.
+pub fn difference_of(a: &[u64; 8], b: &[u64; 8]) -> [u64; 8]
+    ensures { λ r. ⌜ ((k : ℕ) → k < 512 → member r k ≡ (member (now (a .entry)) k && not (member (now (b .entry)) k))) ⌝ }
+{
+    let mut r = [0u64; 8];
+    for w in 0..8 {
+        r[w] = word_minus(a[w], b[w]);
+    }
+    r
+}
+
 // ---- words
 
 // The lowest set bit of a word that is not 0.
@@ -110,6 +121,13 @@ fn shared(a: u64, b: u64) -> usize
     ensures { λ r. ⌜ r ≡ countBelow 64 (λ k. bit a k && bit b k) ⌝ }
 {
     u64::count_ones(a & b) as usize
+}
+
+// The bits that a has and b has not.
+fn word_minus(a: u64, b: u64) -> u64
+    ensures { λ r. ⌜ ((k : ℕ) → k < 64 → bit r k ≡ (bit a k && not (bit b k))) ⌝ }
+{
+    a & !b
 }
 
 // The bits that a or b and s have, and t has not.

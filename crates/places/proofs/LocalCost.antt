@@ -112,4 +112,6 @@ module _ {conflictWords stitchWords order starts list : List ℕ} {end : ℕ} wh
   laid-all room laid = record {
     lists = λ k h. place-lists room (laid .place k h);
     adds = λ weight p m h. place-adds weight p m (laid .place (length p) h);
+    long = laid .long;
+    whole = laid .whole;
   }

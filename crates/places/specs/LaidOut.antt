@@ -32,7 +32,10 @@ pub record Listed (words order : List ℕ) (k i a : ℕ) (before after : List �
   pub kept : (j : ℕ) → j < a → getD after j 0 ≡ getD before j 0
   pub past : (j : ℕ) → b ≤ j → getD after j 0 ≡ getD before j 0
 
--- The places below n are laid out: what a mask adds at one of them is what the rules say of the component's graph.
+-- The places below n are laid out: what a mask adds at one of them is what the rules say of the component's graph. What lies past the lists in
+-- either array says nothing.
 pub record LaidOut (conflictWords stitchWords order : List ℕ) (n : ℕ) (starts list : List ℕ) : Type 0 where
   pub lists : (k : ℕ) → k < n → PlaceLists starts list k
   pub adds : (weight : ℕ) (p : List ℕ) (m : ℕ) → length p < n → localAdded weight starts list p m ≡ added weight (localGraph (wordGraph conflictWords stitchWords) order) p m
+  pub long : length starts ≡ 1025
+  pub whole : length list ≡ 131_584

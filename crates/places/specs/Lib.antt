@@ -1,2 +1,3 @@
 pub mod Local
 pub mod LaidOut
+pub mod Order

@@ -10,6 +10,7 @@ pub mod Search
 pub mod Budget
 pub mod Complete
 pub mod Renaming
+pub mod SameCost
 pub mod SearchAll
 pub mod Decomposition
 pub mod Neighbours

@@ -7,8 +7,8 @@ use Prim.Native.Nat.{ℕ, _+_, _-_, _≤_, _<_}
 use lib.ListN.{set}
 use Rattle.places.specs.LaidOut.{Listed}
 use Rattle.places.proofs.Listing.{listed-none, listed-yes, listed-no}
-use Rattle.places.proofs.list_neighbours.Statement.{statement}
-use Rattle.places.proofs.list_neighbours.Tie as tie
+use Rattle.places.proofs.lists.list_neighbours.Statement.{statement}
+use Rattle.places.proofs.lists.list_neighbours.Tie as tie
 
 abbrev Inv-loop : tie.InvT-loop
 Inv-loop words order k list₀ from vertex end₀ i₀ list end i = (i ≤ k) × Listed words order k i from list₀ list end

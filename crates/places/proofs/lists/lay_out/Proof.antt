@@ -6,8 +6,8 @@ use Prim.Native.Nat.{ℕ, _+_, _-_, _*_, _≤_, _<_}
 use lib.ListN.{getD, set}
 use Rattle.places.proofs.Laying.{Laid, laid-none, laid-next, room-left, list-room}
 use Rattle.places.proofs.LocalCost.{laid-all}
-use Rattle.places.proofs.lay_out.Statement.{statement}
-use Rattle.places.proofs.lay_out.Tie as tie
+use Rattle.places.proofs.lists.lay_out.Statement.{statement}
+use Rattle.places.proofs.lists.lay_out.Tie as tie
 
 abbrev Inv-loop : tie.InvT-loop
 Inv-loop conflicts stitches order size starts₀ list₀ end₀ k₀ starts list end k = (k ≤ size) × Laid conflicts stitches order starts list end k

@@ -1,0 +1,3 @@
+-- Laws of the search of the core.
+pub mod OneComponent
+pub mod CoreLaws

@@ -1,0 +1,55 @@
+-- What the search of a component leaves, on adjacency words. Assumes nothing: these are definitions.
+use mathlib.Core.Bool.{true}
+use mathlib.Core.List.{List}
+use mathlib.Core.Path.{_≡_}
+use Prim.Native.Nat.{ℕ, _-_, _≤_, _<_}
+use lib.Dec.{eqb}
+use lib.ListN.{length, getD}
+use Rattle.bitset.specs.Bits.{member}
+use Rattle.rules.specs.Search.{State, localGraph, searchFrom}
+use Rattle.rules.specs.Components.{components}
+use Rattle.rules.specs.Decomposition.{putMasks, Reached, searchAll}
+use Rattle.layout.specs.Adjacency.{wordGraph}
+use Rattle.layout.specs.Members.{membersOf}
+use Rattle.places.specs.LaidOut.{Exclusive}
+use Rattle.search.specs.Branch.{masksIn, weightIn, budgetIn}
+
+-- the search of a component by the rules, with so many steps left of the budget
+abbrev pub searchOf : List ℕ → List ℕ → List ℕ → List ℕ → ℕ → State
+searchOf conflictWords stitchWords component numbers left =
+    let order = membersOf component in
+    searchFrom (masksIn numbers) (weightIn numbers) (budgetIn numbers) (localGraph (wordGraph conflictWords stitchWords) order) (length order) (budgetIn numbers - left) (eqb (getD numbers 1 0) 1)
+
+-- the words, the numbers of the search, and a place among the masks for each vertex
+pub record Given (conflictWords stitchWords vertices numbers : List ℕ) (left : ℕ) (result : List ℕ) : Type 0 where
+  pub exclusive : Exclusive conflictWords stitchWords
+  pub some : 1 ≤ masksIn numbers
+  pub masks : masksIn numbers ≤ 8
+  pub weight : weightIn numbers ≤ 1000
+  pub numbered : length numbers ≡ 6
+  pub afford : left ≤ budgetIn numbers
+  pub placed : (u : ℕ) → u < 512 → member vertices u ≡ true → u < length result
+
+-- a component was searched, and its masks put down
+pub record OneSearched (conflictWords stitchWords component numbers numbers′ : List ℕ) (left : ℕ) (result result′ : List ℕ) (left′ : ℕ) : Type 0 where
+  pub steps : budgetIn numbers - left′ ≡ searchOf conflictWords stitchWords component numbers left .steps
+  pub stopped : eqb (getD numbers′ 1 0) 1 ≡ searchOf conflictWords stitchWords component numbers left .stopped
+  pub masks : result′ ≡ putMasks (membersOf component) (searchOf conflictWords stitchWords component numbers left .incumbent) result
+  pub numbered : length numbers′ ≡ 6
+  pub constants : (i : ℕ) → 3 ≤ i → getD numbers′ i 0 ≡ getD numbers i 0
+  pub fewer : left′ ≤ left
+
+-- what the search of some vertices, component by component, makes of the masks, with so many steps left of the budget
+abbrev pub searchAllOf : List ℕ → List ℕ → List ℕ → List ℕ → ℕ → List ℕ → Reached
+searchAllOf conflictWords stitchWords vertices numbers left result =
+    let g = wordGraph conflictWords stitchWords in
+    searchAll (masksIn numbers) (weightIn numbers) (budgetIn numbers) g (components g (membersOf vertices)) (record { steps = budgetIn numbers - left; stopped = eqb (getD numbers 1 0) 1; masks = result })
+
+-- the core was searched, from the whole budget on
+pub record CoreSearched (conflictWords stitchWords core numbers numbers′ result result′ : List ℕ) (left′ : ℕ) : Type 0 where
+  pub steps : budgetIn numbers - left′ ≡ searchAllOf conflictWords stitchWords core numbers (budgetIn numbers) result .steps
+  pub stopped : eqb (getD numbers′ 1 0) 1 ≡ searchAllOf conflictWords stitchWords core numbers (budgetIn numbers) result .stopped
+  pub masks : result′ ≡ searchAllOf conflictWords stitchWords core numbers (budgetIn numbers) result .masks
+  pub numbered : length numbers′ ≡ 6
+  pub constants : (i : ℕ) → 3 ≤ i → getD numbers′ i 0 ≡ getD numbers i 0
+  pub fewer : left′ ≤ budgetIn numbers

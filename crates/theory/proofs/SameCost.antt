@@ -1,0 +1,67 @@
+-- The search of n places looks at what masks add after fewer than n places alone. So two added costs that agree there give the same first assignment, the same
+-- total and the same search.
+use mathlib.Core.Bool.{Bool}
+use mathlib.Core.List.{List, [], _∷_, _++_}
+use mathlib.Core.Logic.{⊎-elim}
+use mathlib.Core.Path.{_≡_, refl, sym, ap, _∙_}
+use Prim.Native.Nat.{ℕ, zero, suc, _+_, _≤_, _<_}
+use native.Mathlib.Omega.{arith}
+use lib.ListN.{length, length-append}
+use Rattle.rules.specs.Search.{cheapest, firstAfter, total, totalAfter, State, state, step, Next, tryMasks, searchPlaces}
+use Rattle.rules.proofs.Tests.{lt-or-ge}
+use Rattle.theory.proofs.Search.{at-stop, at-enter, at-skip, first-length}
+
+longer : (p : List ℕ) (m : ℕ) → length (p ++ (m ∷ [])) ≡ suc (length p)
+longer p m = length-append p (m ∷ []) ∙ omega arith
+
+module _ (add add′ : List ℕ → ℕ → ℕ) (n : ℕ) (same : (p : List ℕ) (m : ℕ) → length p < n → add p m ≡ add′ p m) where
+  first-alike : (K left : ℕ) (p : List ℕ) → length p + left ≡ n → firstAfter add K left p ≡ firstAfter add′ K left p
+  unfolding firstAfter
+  first-alike K zero p e = refl
+  first-alike K (suc left) p e =
+      let here : cheapest (add p) K ≡ cheapest (add′ p) K = λ i. cheapest (λ m. same p m (omega arith) i) K in
+      ap (λ (m : ℕ). firstAfter add K left (p ++ (m ∷ []))) here ∙ first-alike K left (p ++ (cheapest (add′ p) K ∷ [])) (omega (arith, longer p (cheapest (add′ p) K)))
+
+  total-alike : (p : List ℕ) (c : ℕ) (q : List ℕ) → length p + length q ≤ n → totalAfter add p c q ≡ totalAfter add′ p c q
+  unfolding totalAfter
+  total-alike p c [] h = refl
+  total-alike p c (m ∷ q) h =
+      ap (λ (x : ℕ). totalAfter add (p ++ (m ∷ [])) (c + x) q) (same p m (omega arith)) ∙ total-alike (p ++ (m ∷ [])) (c + add′ p m) q (omega (arith, longer p m))
+
+  module _ (budget : ℕ) where
+    try-alike : (next next′ : Next) (ms p : List ℕ) (c : ℕ) (s : State) → length p < n → ((q : List ℕ) (d : ℕ) (t : State) → length q ≡ suc (length p) → next q d t ≡ next′ q d t)
+        → tryMasks add budget next ms p c s ≡ tryMasks add′ budget next′ ms p c s
+    unfolding tryMasks
+    try-alike next next′ [] p c s h e = refl
+    try-alike next next′ (m ∷ ms) p c s h e =
+        let adds = same p m h in
+        ⊎-elim
+        (λ within. ⊎-elim
+        (λ (cheap : c + add p m < s .cost).
+        at-enter add budget next m ms p c s within cheap
+        ∙ ap (λ (x : ℕ). tryMasks add budget next ms p c (next (p ++ (m ∷ [])) (c + x) (step s))) adds
+        ∙ ap (tryMasks add budget next ms p c) (e (p ++ (m ∷ [])) (c + add′ p m) (step s) (longer p m))
+        ∙ try-alike next next′ ms p c (next′ (p ++ (m ∷ [])) (c + add′ p m) (step s)) h e
+        ∙ sym (at-enter add′ budget next′ m ms p c s within (omega arith)))
+        (λ (dear : s .cost ≤ c + add p m).
+        at-skip add budget next m ms p c s within dear ∙ try-alike next next′ ms p c (step s) h e ∙ sym (at-skip add′ budget next′ m ms p c s within (omega arith)))
+        (lt-or-ge (c + add p m) (s .cost)))
+        (λ spent. at-stop add budget next m ms p c s spent ∙ sym (at-stop add′ budget next′ m ms p c s spent))
+        (lt-or-ge (s .steps) budget)
+
+    search-alike : (cands : List ℕ → List ℕ) (left : ℕ) (p : List ℕ) (c : ℕ) (s : State) → length p + left ≡ n
+        → searchPlaces add cands budget left p c s ≡ searchPlaces add′ cands budget left p c s
+    unfolding searchPlaces
+    search-alike cands zero p c s e = refl
+    search-alike cands (suc left) p c s e =
+        try-alike (searchPlaces add cands budget left) (searchPlaces add′ cands budget left) (cands p) p c s (omega arith) (λ q d t f. search-alike cands left q d t (omega arith))
+
+    -- from the first assignment on
+    pub from-alike : (K : ℕ) (cands : List ℕ → List ℕ) (steps : ℕ) (stopped : Bool)
+        → searchPlaces add cands budget n [] 0 (state steps stopped (total add (firstAfter add K n [])) (firstAfter add K n []))
+        ≡ searchPlaces add′ cands budget n [] 0 (state steps stopped (total add′ (firstAfter add′ K n [])) (firstAfter add′ K n []))
+    from-alike K cands steps stopped =
+        let none : length {A = ℕ} [] + n ≡ n = omega arith in
+        let first = first-alike K n [] none in
+        let cost : total add (firstAfter add′ K n []) ≡ total add′ (firstAfter add′ K n []) = total-alike [] 0 (firstAfter add′ K n []) (omega (arith, first-length add′ K n [])) in
+        search-alike cands n [] 0 _ none ∙ rw (first, cost)
