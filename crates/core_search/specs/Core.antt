@@ -30,7 +30,7 @@ pub record Given (conflictWords stitchWords vertices numbers : List ℕ) (left :
   pub afford : left ≤ budgetIn numbers
   pub placed : (u : ℕ) → u < 512 → member vertices u ≡ true → u < length result
 
--- a component was searched, and its masks put down
+-- A component was searched, and its masks put down. The number at 0 is the incumbent's cost, that at 2 the component's size.
 pub record OneSearched (conflictWords stitchWords component numbers numbers′ : List ℕ) (left : ℕ) (result result′ : List ℕ) (left′ : ℕ) : Type 0 where
   pub steps : budgetIn numbers - left′ ≡ searchOf conflictWords stitchWords component numbers left .steps
   pub stopped : eqb (getD numbers′ 1 0) 1 ≡ searchOf conflictWords stitchWords component numbers left .stopped
@@ -45,7 +45,7 @@ searchAllOf conflictWords stitchWords vertices numbers left result =
     let g = wordGraph conflictWords stitchWords in
     searchAll (masksIn numbers) (weightIn numbers) (budgetIn numbers) g (components g (membersOf vertices)) (record { steps = budgetIn numbers - left; stopped = eqb (getD numbers 1 0) 1; masks = result })
 
--- the core was searched, from the whole budget on
+-- The core was searched, from the whole budget on. The numbers at 0 and 2 are the last component's and say nothing of the core.
 pub record CoreSearched (conflictWords stitchWords core numbers numbers′ result result′ : List ℕ) (left′ : ℕ) : Type 0 where
   pub steps : budgetIn numbers - left′ ≡ searchAllOf conflictWords stitchWords core numbers (budgetIn numbers) result .steps
   pub stopped : eqb (getD numbers′ 1 0) 1 ≡ searchAllOf conflictWords stitchWords core numbers (budgetIn numbers) result .stopped

@@ -1,5 +1,5 @@
-// The lists of earlier neighbours. Two of 512 places make 130,816 pairs, each an entry at most. The list has room for the neighbours of a place twice beyond that, so that no
-// entry is stored past its end while a place is laid out.
+// The lists of earlier neighbours. Two of 512 places make 130,816 pairs, each an entry at most. The list has room for the neighbours of a place
+// twice beyond that, so that no entry is stored past its end while a place is laid out.
 ghost use mathlib.Core.Path.{_≡_};
 ghost use Prim.Native.Nat.{ℕ, _+_, _≤_, _<_};
 ghost use lib.ListN.{length, getD, set};

@@ -25,7 +25,7 @@ pub record Posed (starts list numbers : List ℕ) (left : ℕ) : Type 0 where
   pub numbered : length numbers ≡ 6
   pub afford : left ≤ budgetIn numbers
 
--- it was searched; the numbers that were given are as they were
+-- It was searched; the numbers that were given are as they were. What the incumbent has past the last place says nothing.
 pub record Searched (starts list incumbent numbers numbers′ : List ℕ) (left left′ : ℕ) : Type 0 where
   pub searched : stateIn incumbent numbers′ left′ ≡ searchLocal starts list numbers left
   pub numbered : length numbers′ ≡ 6
