@@ -236,6 +236,22 @@ module _ (starts list partial incumbent numbers : List ℕ) (p c u left m more :
             };
           }
 
+-- Mask m was tried at place p: what it left, and that the masks after it, tried from there, make what they make with m.
+pub record Went (starts list partial partial₁ incumbent incumbent₁ numbers numbers₁ : List ℕ) (p c left left₁ m more : ℕ) : Type 0 where
+  pub kept : Kept partial partial₁ numbers numbers₁ p left left₁
+  pub on : {partial₂ incumbent₂ numbers₂ : List ℕ} {left₂ : ℕ} → Masked starts list partial₁ partial₂ incumbent₁ incumbent₂ numbers₁ numbers₂ p c left₁ (m + 1) (more - 1) left₂
+      → Masked starts list partial partial₂ incumbent incumbent₂ numbers numbers₂ p c left m more left₂
+
+-- the same under other names
+pub went-as : {starts list partial partial₁ incumbent incumbent₁ numbers numbers₁ a b n : List ℕ} {p c left left₁ l m more : ℕ}
+    → a ≡ partial₁ → b ≡ incumbent₁ → n ≡ numbers₁ → l ≡ left₁
+    → Went starts list partial partial₁ incumbent incumbent₁ numbers numbers₁ p c left left₁ m more → Went starts list partial a incumbent b numbers n p c left l m more
+went-as {starts} {list} {partial} {partial₁} {incumbent} {incumbent₁} {numbers} {numbers₁} {a} {b} {n} {p} {c} {left} {left₁} {l} {m} {more} e f g h w =
+    subst⁻¹ (λ (x : List ℕ). Went starts list partial x incumbent b numbers n p c left l m more) e
+    (subst⁻¹ (λ (x : List ℕ). Went starts list partial partial₁ incumbent x numbers n p c left l m more) f
+    (subst⁻¹ (λ (x : List ℕ). Went starts list partial partial₁ incumbent incumbent₁ numbers x p c left l m more) g
+    (subst⁻¹ (λ (x : ℕ). Went starts list partial partial₁ incumbent incumbent₁ numbers numbers₁ p c left x m more) h w)))
+
 -- ---- A place
 
 module _ (starts list partial incumbent numbers : List ℕ) (p c u left : ℕ) (ready : Ready starts list partial numbers p c u left) where

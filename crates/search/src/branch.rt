@@ -102,10 +102,10 @@ fn search_masks(
         return 0;
     }
     let total = cost + row[m as usize];
-    if total < numbers[0] {
+    let rest = if total < numbers[0] {
         put(partial, p, m as u8);
         let next = if m < used { used } else { used + 1 };
-        let rest = search_place(
+        search_place(
             starts,
             list,
             partial,
@@ -115,35 +115,22 @@ fn search_masks(
             total,
             next,
             left - 1,
-        );
-        search_masks(
-            starts,
-            list,
-            partial,
-            incumbent,
-            numbers,
-            p,
-            cost,
-            used,
-            rest,
-            row,
-            m + 1,
-            more - 1,
         )
     } else {
-        search_masks(
-            starts,
-            list,
-            partial,
-            incumbent,
-            numbers,
-            p,
-            cost,
-            used,
-            left - 1,
-            row,
-            m + 1,
-            more - 1,
-        )
-    }
+        left - 1
+    };
+    search_masks(
+        starts,
+        list,
+        partial,
+        incumbent,
+        numbers,
+        p,
+        cost,
+        used,
+        rest,
+        row,
+        m + 1,
+        more - 1,
+    )
 }

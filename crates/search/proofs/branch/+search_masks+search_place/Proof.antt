@@ -8,8 +8,8 @@ use Prim.Native.Nat.{ℕ, _+_, _-_, _*_, _≤_, _<_}
 use denote.Ref.{now}
 use lib.ListN.{getD, set}
 use borrow.Author.Needs.{needs}
-use Rattle.search.specs.Branch.{sizeIn, masksIn, triedIn, Ready, RowOf, Kept, Placed, Masked}
-use Rattle.search.proofs.Moves.{ready-masks, ready-next, ready-same, added-small, masked-none, masked-stop, masked-skip, kept-below, masked-enter, placed-masks, placed-last, row-same}
+use Rattle.search.specs.Branch.{sizeIn, masksIn, triedIn, Ready, RowOf, Placed, Masked}
+use Rattle.search.proofs.Moves.{ready-masks, ready-next, ready-same, added-small, masked-none, masked-stop, masked-skip, kept-below, masked-enter, Went, went-as, placed-masks, placed-last, row-same}
 use borrow.Fn.Kinds.{In}
 use borrow.Fn.PlainCycle.{Measures, is, falls, and}
 use Rattle.search.proofs.branch.search_masks.Reads as search-masks
@@ -86,9 +86,6 @@ module _ (t : ℕ) where
   abbrev Tried : Type 0
   Tried = search-masks-lts.Else2 search-masks-told (search-masks-at t) search-masks.Post
 
-  abbrev Searched : Type 0
-  Searched = search-masks-lts.After-search-place search-masks-told (search-masks-at t) search-masks.Post
-
   -- a mask is tried: there is one, and a step is left
   module _ (c : Tried) where
     abbrev begun : search-masks-lts.Start search-masks-told (search-masks-at t) search-masks.Post
@@ -109,22 +106,41 @@ module _ (t : ℕ) where
     abbrev adds : ℕ
     adds = getD (begun .args .row .now) (begun .args .m) 0
 
-  -- the search from the next place has run
-  module _ (c : Searched) where
+  -- mask m was tried: entered or not
+  module _ (c : search-masks-lts.Joined3 search-masks-told (search-masks-at t) search-masks.Post) where
     abbrev tried : Tried
-    tried = c .before .before .before .before .before .before .before .before .before .before
+    tried = c .before .before .before
 
     abbrev a : search-masks-lts.Args search-masks-told (search-masks-at t) search-masks.Post (begun tried .κs)
     a = begun tried .args
 
-    next-place : Placed (a .starts .now) (a .list .now) (set (a .partial .now) (a .p) (a .m)) (c .search-place .last .1 .1 .0) (a .incumbent .now) (c .search-place .last .1 .1 .1 .0)
-        (a .numbers .now) (c .search-place .last .1 .1 .1 .1 .0) (a .p + 1) (a .cost + adds tried) (a .left - 1) (c .search-place .result)
-    next-place = subst (λ (l : List ℕ). Placed (a .starts .now) (a .list .now) l (c .search-place .last .1 .1 .0) (a .incumbent .now) (c .search-place .last .1 .1 .1 .0)
-        (a .numbers .now) (c .search-place .last .1 .1 .1 .1 .0) (a .p + 1) (a .cost + adds tried) (a .left - 1) (c .search-place .result))
-        (c .before .before .before .before .before .put .ensures) (c .search-place .ensures)
+    abbrev ready : Ready (a .starts .now) (a .list .now) (a .partial .now) (a .numbers .now) (a .p) (a .cost) (a .used) (a .left)
+    ready = begun tried .pre .1 .0
 
-    kept-there : Kept (a .partial .now) (c .search-place .last .1 .1 .0) (a .numbers .now) (c .search-place .last .1 .1 .1 .1 .0) (a .p) (a .left) (c .search-place .result)
-    kept-there = kept-below (a .starts .now) (a .list .now) (a .partial .now) (a .incumbent .now) (a .numbers .now) (a .p) (a .cost) (a .used) (a .left) (a .m) (a .more) (begun tried .pre .1 .0) (adds tried) (some tried) (afford tried) (begun tried .pre .1 .1 .0 .adds (a .m) (low tried)) (begun tried .pre .1 .1 .1 .0) next-place
+    went : Went (a .starts .now) (a .list .now) (a .partial .now) (c .if3 .partial) (a .incumbent .now) (c .if3 .incumbent) (a .numbers .now) (c .if3 .numbers) (a .p) (a .cost) (a .left) (c .if3 .rest)
+        (a .m) (a .more)
+    went =
+        let row = begun tried .pre .1 .1 .0 .adds (a .m) (low tried) in
+        ⊎-elim
+        (λ w.
+        let d = w .7 in
+        let partial₁ = d .last .1 .1 .0 in
+        let incumbent₁ = d .last .1 .1 .1 .0 in
+        let numbers₁ = d .last .1 .1 .1 .1 .0 in
+        let one : Placed (a .starts .now) (a .list .now) (set (a .partial .now) (a .p) (a .m)) partial₁ (a .incumbent .now) incumbent₁ (a .numbers .now) numbers₁ (a .p + 1) (a .cost + adds tried) (a .left - 1) (d .result)
+        = subst (λ (l : List ℕ). Placed (a .starts .now) (a .list .now) l partial₁ (a .incumbent .now) incumbent₁ (a .numbers .now) numbers₁ (a .p + 1) (a .cost + adds tried) (a .left - 1) (d .result)) (w .2 .ensures) (d .ensures) in
+        went-as (w .8) (w .9) (w .10) (w .11)
+        record {
+          kept = kept-below (a .starts .now) (a .list .now) (a .partial .now) (a .incumbent .now) (a .numbers .now) (a .p) (a .cost) (a .used) (a .left) (a .m) (a .more) ready (adds tried) (some tried) (afford tried) row (begun tried .pre .1 .1 .1 .0) one;
+          on = masked-enter (a .starts .now) (a .list .now) (a .partial .now) (a .incumbent .now) (a .numbers .now) (a .p) (a .cost) (a .used) (a .left) (a .m) (a .more) ready (adds tried) (some tried) (afford tried) row (begun tried .pre .1 .1 .1 .0) one (w .0 .taken);
+        })
+        (λ w.
+        went-as (w .1) (w .2) (w .3) (w .4)
+        record {
+          kept = record { before = refl; whole = ready .whole; numbered = ready .numbered; constants = λ i h. refl; fewer = omega arith };
+          on = masked-skip (a .starts .now) (a .list .now) (a .partial .now) (a .incumbent .now) (a .numbers .now) (a .p) (a .cost) (a .used) (a .left) (a .m) (a .more) ready (adds tried) (some tried) (afford tried) row (w .0 .left);
+        })
+        (c .if3 .came)
 
   search-masks-returns : search-masks-lts.Need-returns search-masks-told (search-masks-at t) search-masks.Post
   search-masks-returns c =
@@ -196,69 +212,28 @@ module _ (t : ℕ) where
         subst⁻¹ (λ (l : List ℕ). Ready (a .starts .now) (a .list .now) l (a .numbers .now) (a .p + 1) (a .cost + adds over) (join .if4 .next) (a .left - 1)) (join .before .put .ensures) next,
       )
 
+  search-masks-sub-rest : search-masks-lts.Need-sub-rest search-masks-told (search-masks-at t) search-masks.Post
+  search-masks-sub-rest c = omega (arith, afford (c .before .before .before))
+
   search-masks-add-search-masks : search-masks-lts.Need-add-search-masks search-masks-told (search-masks-at t) search-masks.Post
-  search-masks-add-search-masks c =
-      let over = tried (c .before .before .before) in
-      omega (arith, low over)
+  search-masks-add-search-masks c = omega (arith, low (tried (c .before .before .before)))
 
   search-masks-sub-search-masks : search-masks-lts.Need-sub-search-masks search-masks-told (search-masks-at t) search-masks.Post
-  search-masks-sub-search-masks c =
-      let over = tried (c .before .before .before) in
-      omega (arith, some over)
+  search-masks-sub-search-masks c = omega (arith, some (tried (c .before .before .before)))
 
   search-masks-search-masks-requires : search-masks-lts.Need-search-masks-requires search-masks-told (search-masks-at t) search-masks.Post
   search-masks-search-masks-requires c κs =
-      let placed = c .before .before .before in
-      let s = begun (tried placed) in
-      let kept = kept-there placed in
+      let join = c .before .before .before in
+      let s = begun (tried join) in
+      let kept = went join .kept in
       let size = kept .constants 2 (omega arith) in
       let masks = kept .constants 3 (omega arith) in (
-        omega (arith, s .pre .0, size, some (tried placed)),
-        (ready-same (s .pre .1 .0) kept, (row-same (s .pre .1 .1 .0) kept, (omega (arith, s .pre .1 .1 .1), omega (arith, s .pre .1 .1 .1, some (tried placed))))),
-      )
-
-  search-masks-sub-search-masks-2 : search-masks-lts.Need-sub-search-masks-2 search-masks-told (search-masks-at t) search-masks.Post
-  search-masks-sub-search-masks-2 c =
-      let over = c .before .before .before .before .before .before in
-      omega (arith, afford over)
-
-  search-masks-add-search-masks-2 : search-masks-lts.Need-add-search-masks-2 search-masks-told (search-masks-at t) search-masks.Post
-  search-masks-add-search-masks-2 c =
-      let over = c .before .before .before .before .before .before in
-      omega (arith, low over)
-
-  search-masks-sub-search-masks-3 : search-masks-lts.Need-sub-search-masks-3 search-masks-told (search-masks-at t) search-masks.Post
-  search-masks-sub-search-masks-3 c =
-      let over = c .before .before .before .before .before .before in
-      omega (arith, some over)
-
-  search-masks-search-masks-requires-2 : search-masks-lts.Need-search-masks-requires-2 search-masks-told (search-masks-at t) search-masks.Post
-  search-masks-search-masks-requires-2 c κs =
-      let over = c .before .before .before .before .before .before in
-      let s = begun over in
-      let ready = s .pre .1 .0 in
-      let kept : Kept (s .args .partial .now) (s .args .partial .now) (s .args .numbers .now) (s .args .numbers .now) (s .args .p) (s .args .left) (s .args .left - 1)
-      = record { before = refl; whole = ready .whole; numbered = ready .numbered; constants = λ i h. refl; fewer = omega arith } in (
-        omega (arith, s .pre .0, some over),
-        (ready-same ready kept, (s .pre .1 .1 .0, (s .pre .1 .1 .1 .0, omega (arith, s .pre .1 .1 .1, some over)))),
+        omega (arith, s .pre .0, size, some (tried join)),
+        (ready-same (s .pre .1 .0) kept, (row-same (s .pre .1 .1 .0) kept, (omega (arith, s .pre .1 .1 .1), omega (arith, s .pre .1 .1 .1, some (tried join))))),
       )
 
   search-masks-returns-3 : search-masks-lts.Need-returns-3 search-masks-told (search-masks-at t) search-masks.Post
-  search-masks-returns-3 c =
-      let placed = c .before .before .before .before in
-      let over = tried placed in
-      let s = begun over in
-      let a = s .args in
-      masked-enter (a .starts .now) (a .list .now) (a .partial .now) (a .incumbent .now) (a .numbers .now) (a .p) (a .cost) (a .used) (a .left) (a .m) (a .more) (s .pre .1 .0) (adds over) (some over) (afford over) (s .pre .1 .1 .0 .adds (a .m) (low over)) (s .pre .1 .1 .1 .0) (next-place placed)
-      (placed .before .before .before .before .before .before .before .if3 .taken) (c .search-masks .ensures)
-
-  search-masks-returns-4 : search-masks-lts.Need-returns-4 search-masks-told (search-masks-at t) search-masks.Post
-  search-masks-returns-4 c =
-      let test = c .before .before .before .before in
-      let over = test .before .before .before in
-      let s = begun over in
-      let a = s .args in
-      masked-skip (a .starts .now) (a .list .now) (a .partial .now) (a .incumbent .now) (a .numbers .now) (a .p) (a .cost) (a .used) (a .left) (a .m) (a .more) (s .pre .1 .0) (adds over) (some over) (afford over) (s .pre .1 .1 .0 .adds (a .m) (low over)) (test .if3 .left) (c .search-masks2 .ensures)
+  search-masks-returns-3 c = went (c .before .before .before .before) .on (c .search-masks .ensures)
 
   -- ---- A place
 
@@ -351,15 +326,11 @@ pub +search-masks+search-place-spec : {M : Type 1} → statement M
     (search-masks-add-search-place t)
     (search-masks-sub-search-place t)
     (search-masks-search-place-requires t)
+    (search-masks-sub-rest t)
     (search-masks-add-search-masks t)
     (search-masks-sub-search-masks t)
     (search-masks-search-masks-requires t)
-    (search-masks-sub-search-masks-2 t)
-    (search-masks-add-search-masks-2 t)
-    (search-masks-sub-search-masks-3 t)
-    (search-masks-search-masks-requires-2 t)
-    (search-masks-returns-3 t)
-    (search-masks-returns-4 t))
+    (search-masks-returns-3 t))
     λ t. search-place-lts.spec (search-place-told t)
     (search-place-at t)
     search-place.Post
