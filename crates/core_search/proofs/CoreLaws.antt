@@ -11,7 +11,7 @@ use Rattle.rules.specs.Basics.{keep, occurs, without}
 use Rattle.rules.specs.Edges.{Graph}
 use Rattle.rules.specs.Components.{componentOf, componentsFor, components}
 use Rattle.rules.specs.Decomposition.{putMasks, Reached, searchAll}
-use Rattle.rules.proofs.Lists.{keep-no-longer, occurs-in}
+use Rattle.rules.proofs.Lists.{keep-fail, keep-no-longer, occurs-in}
 use Rattle.rules.proofs.Tests.{both}
 use Rattle.layout.specs.Adjacency.{wordGraph}
 use Rattle.layout.specs.Members.{membersOf}
@@ -21,10 +21,6 @@ use Rattle.components.specs.Component.{IsComponent}
 use Rattle.search.specs.Branch.{masksIn, weightIn, budgetIn}
 use Rattle.places.proofs.Ordering.{members-none}
 use Rattle.core_search.specs.Core.{searchOf, searchAllOf, Given, OneSearched, CoreSearched}
-
-drop-head : (f : ℕ → Bool) (x : ℕ) (xs : List ℕ) → f x ≡ false → keep f (x ∷ xs) ≡ keep f xs
-unfolding keep
-drop-head f x xs e = rw (e, keep)
 
 -- rounds beyond the number of vertices change nothing
 rounds-enough : (g : Graph) (n m : ℕ) (xs : List ℕ) → length xs ≤ n → length xs ≤ m → componentsFor n g xs ≡ componentsFor m g xs
@@ -102,7 +98,7 @@ module _ {conflictWords stitchWords core numbers₀ result₀ numbers result : L
       others = keep (λ u. not (occurs u (componentOf g v after))) after
 
       not-v : keep (λ u. not (occurs u (membersOf component))) (v ∷ after) ≡ keep (λ u. not (occurs u (membersOf component))) after
-      not-v = drop-head (λ u. not (occurs u (membersOf component))) v after (ap not (occurs-in v (membersOf component) .1 (in-members component v .1 (small, is .first))))
+      not-v = keep-fail (λ u. not (occurs u (membersOf component))) v after (ap not (occurs-in v (membersOf component) .1 (in-members component v .1 (small, is .first))))
 
       members-left : membersOf rest′ ≡ others
       members-left = members-rest rest component rest′ gone ∙ ap (keep (λ u. not (occurs u (membersOf component)))) members ∙ not-v

@@ -75,7 +75,7 @@ module _ (f : ℕ → Bool) where
   unfolding keep
   keep-pass x xs e = rw (e, keep)
 
-  keep-fail : (x : ℕ) (xs : List ℕ) → f x ≡ false → keep f (x ∷ xs) ≡ keep f xs
+  pub keep-fail : (x : ℕ) (xs : List ℕ) → f x ≡ false → keep f (x ∷ xs) ≡ keep f xs
   unfolding keep
   keep-fail x xs e = rw (e, keep)
 
