@@ -5,13 +5,13 @@ use mathlib.Core.Bool.{Bool, true, false, _&&_, _||_, and-true, and-false, and-c
 use mathlib.Core.List.{List}
 use mathlib.Core.Logic.{⊎-elim}
 use mathlib.Core.Path.{_≡_, refl, sym, ap, _∙_}
-use Prim.Native.Nat.{ℕ, _+_, _≤_, _<_, min, max}
+use Prim.Native.Nat.{ℕ, _+_, _*_, _/_, _%_, _≤_, _<_, min, max}
 use native.Mathlib.Decide.{decLt, decLe, ℕ-discrete}
 use native.Mathlib.Omega.{arith}
 use lib.Dec.{eqb, ltb}
 use lib.ListN.{replicate}
 use borrow.Author.Tests.{eq-eqb, ne-eqb, eqb-true, lt-ltb, le-ltb}
-use Rattle.bitset.specs.Bits.{hasEdge}
+use Rattle.bitset.specs.Bits.{member, hasEdge}
 use Rattle.bitset.proofs.Sets.{member-none}
 use Rattle.rules.specs.Basics.{given}
 use Rattle.layout.specs.Adjacency.{isPair, inRow, RowTo, Holds}
@@ -136,3 +136,24 @@ module _ (edges : ℕ → ℕ → ℕ) (n : ℕ) (words : List ℕ) (holds : Hol
       go : Dec (a < n) → (ltb a n && ltb b n && ltb 0 (edges a b)) ≡ false
       go (yes m) = rw (lt-ltb a n m, le-ltb b n (omega arith))
       go (no m) = rw (le-ltb a n (omega arith))
+
+-- the words and the graph have the same edges between numbers below n
+pub words-edges : (joins : ℕ → ℕ → Bool) {n : ℕ} {words : List ℕ} → Holds (λ a b. given (joins a b) 1) n words → n ≤ 512
+    → (a b : ℕ) → a < n → b < n → given (hasEdge words a b) 1 ≡ given (joins a b) 1
+words-edges joins {n} {words} holds l a b h k =
+    let e : hasEdge words a b ≡ joins a b = holds .bits a b (omega arith) ∙ rw (lt-ltb a n h, lt-ltb b n k) (given-test (joins a b)) in
+    rw e
+
+-- Past 511 a row runs into the next one.
+folded : (words : List ℕ) (a b : ℕ) → hasEdge words a b ≡ hasEdge words (a + b / 512) (b % 512)
+folded words a b = ap (member words) (let e : 512 * a + b ≡ 512 * (a + b / 512) + b % 512 = omega arith in e)
+
+-- where no two numbers have edges of both kinds, no bit is set in the words of both
+pub words-exclusive : {edges others : ℕ → ℕ → ℕ} {n : ℕ} {words otherWords : List ℕ} → Holds edges n words → Holds others n otherWords
+    → ((a b : ℕ) → ltb 0 (edges a b) ≡ true → ltb 0 (others a b) ≡ false) → (a b : ℕ) → hasEdge words a b ≡ true → hasEdge otherWords a b ≡ false
+words-exclusive {edges} {others} {n} {words} {otherWords} holds other exclusive a b e =
+    let r = a + b / 512 in
+    let k = b % 512 in
+    let small : k < 512 = omega arith in
+    let set : (ltb r n && ltb k n && ltb 0 (edges r k)) ≡ true = sym (holds .bits r k small) ∙ sym (folded words a b) ∙ e in
+    folded otherWords a b ∙ other .bits r k small ∙ rw (exclusive r k (and-right (ltb r n && ltb k n) (ltb 0 (edges r k)) set)) (and-false (ltb r n && ltb k n))

@@ -8,9 +8,8 @@ use Prim.Native.Nat.{ℕ, suc, _-_, _≤_, _<_, _^_}
 use native.Mathlib.Omega.{arith}
 use lib.Dec.{eqb, ltb}
 use lib.ListN.{length, getD, set, length-set}
-use lib.Seq.{getD-set-same, getD-set-other}
 use lib.Count.{ones}
-use borrow.Author.Tests.{eqb-true, eqb-false, eq-eqb}
+use borrow.Author.Tests.{eqb-true, eq-eqb}
 use Rattle.bitset.specs.Bits.{bit, member, hasEdge, both, First, Lowest, WithMask}
 use Rattle.bitset.proofs.Counts.{count-in, count-le, count-bits, count-missing}
 use Rattle.bitset.proofs.Words.{bit-of-zero}
@@ -19,7 +18,7 @@ use Rattle.rules.specs.Edges.{Graph, inConflict}
 use Rattle.rules.specs.Score.{maskOf}
 use Rattle.rules.specs.Peeling.{Removal}
 use Rattle.rules.specs.Decomposition.{Placed, freeMask, putBack, putBackAll}
-use Rattle.rules.proofs.Lists.{_∈_, here, later, here-or-later, Same, any-same, out-any, length-without}
+use Rattle.rules.proofs.Lists.{_∈_, here, later, here-or-later, set-each, Same, any-same, out-any, length-without}
 use Rattle.rules.proofs.Finding.{find-upTo, find-none-upTo, find-same, any-members, any-without}
 use Rattle.rules.proofs.Tests.{by-test, and-left, and-right, or-either, eqb-sym}
 use Rattle.layout.specs.Adjacency.{wordGraph}
@@ -182,10 +181,7 @@ module _ (there there' : List ℕ) (v : ℕ) (put : (k : ℕ) → member there' 
   masked-more : {masks : List ℕ} (m : ℕ) → v < length masks → m < 8 → Masked there masks → Masked there' (set masks v m)
   masked-more {masks} m l h old = record {
     placed = λ u b e. rw (length-set masks v m) (⊎-elim (λ p. old .placed u b p) (λ (q : u ≡ v). omega arith) (put-cases u e));
-    low = λ i.
-        by-test (eqb i v)
-        (λ e. rw (eqb-true i v e, getD-set-same masks v m 0 l) h)
-        (λ e. rw (getD-set-other masks v i m 0 (eqb-false i v e)) (old .low i));
+    low = set-each (λ x. x < 8) masks v m h (old .low);
   }
 
 -- one vertex returns: the last of those that are left

@@ -106,7 +106,7 @@ module _ (s : Settings) (p q : Piece) where
   edge-by x y e f = rw (e, f)
 
   -- a stitch edge joins one shape, a conflict edge two
-  one-kind : conflictEdge s p q ≡ true → stitchEdge s p q ≡ true → ⊥
+  pub one-kind : conflictEdge s p q ≡ true → stitchEdge s p q ≡ true → ⊥
   one-kind e f = conflict-test .0 e .shapes (stitch-test .0 f .shape)
 
   other-edge : {A : Type 0} {e f : Edge} → edgeOf s p q ≡ e → edgeOf s p q ≡ f → (e ≡ f → _≡_ {A = ℕ} 0 1) → A

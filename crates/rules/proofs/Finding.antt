@@ -10,8 +10,8 @@ use native.Mathlib.Omega.{arith}
 use lib.Dec.{eqb}
 use borrow.Author.Tests.{eqb-true, eqb-false}
 use Rattle.rules.specs.Basics.{upFrom, upTo, anyOf, keep, find, without}
-use Rattle.rules.proofs.Lists.{_∈_, here, later, Same, any-in, in-any, keep-in, in-keep, in-upTo, without-in, without-or}
-use Rattle.rules.proofs.Tests.{by-test, both, or-either, same}
+use Rattle.rules.proofs.Lists.{_∈_, here, later, Same, any-in, in-any, in-upTo, without-in, without-or}
+use Rattle.rules.proofs.Tests.{by-test, or-either, same}
 
 pub find-pass : (f : ℕ → Bool) (x : ℕ) (xs : List ℕ) → f x ≡ true → find f (x ∷ xs) ≡ some x
 unfolding find
@@ -61,11 +61,6 @@ pub find-none-upTo : (f : ℕ → Bool) (n : ℕ) → ((i : ℕ) → i < n → f
 find-none-upTo f n h = find-nothing f (upTo n) (λ u m. h u (in-upTo n u .0 m))
 
 -- ---- whether one passes
-
-pub any-keep : (f h : ℕ → Bool) (xs : List ℕ) → anyOf h (keep f xs) ≡ anyOf (λ u. f u && h u) xs
-any-keep f h xs = same _ _
-    (λ e. let r = any-in h (keep f xs) e in let k = keep-in f xs (r .1) in in-any (λ u. f u && h u) (k .0) (rw (k .1, r .2)))
-    (λ e. let r = any-in (λ u. f u && h u) xs e in let p = both (f (r .0)) (h (r .0)) (r .2) in in-any h (in-keep f (r .1) (p .0)) (p .1))
 
 -- lists with the same members
 pub any-members : (f : ℕ → Bool) (xs ys : List ℕ) → Same xs ys → anyOf f xs ≡ anyOf f ys

@@ -11,7 +11,7 @@ use Prim.Native.Nat.{ℕ, zero, suc, _+_, _≤_, _<_}
 use native.Mathlib.Numerals.{add-one}
 use native.Mathlib.Omega.{arith}
 use lib.Dec.{eqb}
-use lib.ListN.{length, getD}
+use lib.ListN.{length, getD, set}
 use borrow.Author.Tests.{eqb-true, eqb-false, eq-eqb, ne-eqb, not-true}
 use Rattle.rules.specs.Basics.{upFrom, upTo, anyOf, countOf, keep, find, occurs, without}
 use Rattle.rules.proofs.Tests.{by-test, clash}
@@ -64,6 +64,20 @@ occurs-in x xs = (λ e. let r = any-in (eqb x) xs e in equal-in (eqb-true x (r .
 
 pub occurs-out : (x : ℕ) (xs : List ℕ) → (occurs x xs ≡ false) ↔ (x ∈ xs → ⊥)
 occurs-out x xs = (λ e m. clash (occurs-in x xs .1 m) e, λ h. by-test (occurs x xs) (λ e. absurd (h (occurs-in x xs .0 e))) (λ e. e))
+
+-- what stands at a place of a list is in it
+pub place-in : (xs : List ℕ) (i : ℕ) → i < length xs → getD xs i 0 ∈ xs
+place-in [] i h = absurd (omega arith)
+place-in (x ∷ xs) zero h = here refl
+place-in (x ∷ xs) (suc i) h = later (place-in xs i (omega arith))
+
+-- a property that all places have, where a number with it is put at one of them
+pub set-each : (P : ℕ → Type 0) (xs : List ℕ) (v m : ℕ) → P m → ((i : ℕ) → P (getD xs i 0)) → (i : ℕ) → P (getD (set xs v m) i 0)
+set-each P [] v m h f i = f i
+set-each P (x ∷ xs) zero m h f zero = h
+set-each P (x ∷ xs) zero m h f (suc i) = f (suc i)
+set-each P (x ∷ xs) (suc v) m h f zero = f zero
+set-each P (x ∷ xs) (suc v) m h f (suc i) = set-each P xs v m h (λ j. f (suc j)) i
 
 pub in-or-out : (x : ℕ) (xs : List ℕ) → (x ∈ xs) ⊎ (x ∈ xs → ⊥)
 in-or-out x xs = by-test (occurs x xs) (λ e. inl (occurs-in x xs .0 e)) (λ e. inr (occurs-out x xs .0 e))

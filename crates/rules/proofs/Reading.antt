@@ -14,7 +14,7 @@ use Rattle.rules.specs.Basics.{countOf}
 use Rattle.rules.specs.Settings.{settingsInRange, countInRange, pieceInRange, hasArea, pieceAt}
 use Rattle.rules.specs.Lines.{ascii, newline, FirstLine, ended, unended, firstLine, lineNumbers, NumbersRead, lineOf}
 use Rattle.rules.specs.LayerText.{NumberLine, headerLines}
-use Rattle.rules.specs.Questions.{Outcome, done, refused, Valid, Layer, readLine, readNumber, readNumbers, pieceFrom, readPiece, readPieces, isEmpty, HeaderRead, headerFrom, readHeader, layerFrom, readBody, readLayer}
+use Rattle.rules.specs.Questions.{done, Valid, Layer, readLine, readNumber, readNumbers, pieceFrom, readPiece, readPieces, isEmpty, HeaderRead, readHeader, layerFrom, readBody, readLayer}
 use Rattle.rules.specs.Refusals.{Ends, accepts, refuses, lineCount, LineOf, OfText, size, form, range, area, overlap}
 use Rattle.rules.proofs.Outcomes.{ends-then, ends-ask, accepted}
 use Rattle.rules.proofs.Ranges.{within-facts}

@@ -14,7 +14,7 @@ use Rattle.rules.specs.declared.answers.Verdict.{Verdict}
 use Rattle.rules.specs.Settings.{settingsInRange, pieceAt}
 use Rattle.rules.specs.Edges.{squaredGap, contact, edgeOf, graphOf}
 use Rattle.rules.specs.Score.{scoreOf}
-use Rattle.rules.specs.Decomposition.{Run, reached, completed, stepsInAll}
+use Rattle.rules.specs.Decomposition.{Run, run, reached, completed, stepsInAll}
 use Rattle.rules.specs.LayerText.{layerText}
 use Rattle.rules.specs.Questions.{Outcome, done, refused, Valid, Layer, readLayer}
 use Rattle.rules.specs.Calls.{newSettings, edgeBetween, scoreMasks, decomposeLayer, masksAfter, writeLayer, decomposeText, bufferAfter}
@@ -113,3 +113,11 @@ pub record Demand3 (s₁ s₂ : Settings) (ps : List Piece) (r₁ r₂ : Run) : 
   pub same : r₁ .verdict ≡ Verdict.Best → r₂ ≡ r₁
   pub cheapest : r₁ .verdict ≡ Verdict.Best → (rival : List ℕ) → Assignment s₁ ps rival → r₁ .cost ≤ assignmentCost s₁ ps rival
   pub noDearer : r₁ .verdict ≡ Verdict.Open → r₂ .cost ≤ r₁ .cost
+
+-- demand 3 of a run against the run at any budget that is no smaller
+abbrev pub AgainstLarger : Settings → List Piece → Run → Type 0
+AgainstLarger s ps r = (larger : Settings) → Alike s larger → Valid larger ps → Demand3 s larger ps r (run larger ps)
+
+-- demand 3 of what a call came to: of its run, where it was not refused
+abbrev pub Demand3Of : Settings → List Piece → Outcome Run → Type 0
+Demand3Of s ps o = (r : Run) → o ≡ done r → AgainstLarger s ps r

@@ -1,10 +1,9 @@
 -- Scores: what each pair adds is at most 1, so counts and costs stay small; and the words of a layer score as its graph. Assumes nothing.
-use mathlib.Core.Bool.{Bool, not}
+use mathlib.Core.Bool.{not}
 use mathlib.Core.List.{List}
-use mathlib.Core.Path.{_≡_, ap, _∙_}
-use Prim.Native.Nat.{ℕ, _≤_, _<_}
+use mathlib.Core.Path.{_≡_, ap}
+use Prim.Native.Nat.{ℕ, _≤_}
 use native.Mathlib.Omega.{arith}
-use borrow.Author.Tests.{lt-ltb}
 use lib.Dec.{eqb}
 use lib.ListN.{length}
 use Rattle.bitset.specs.Bits.{hasEdge}
@@ -18,9 +17,9 @@ use Rattle.rules.specs.Score.{sameMask, conflictsOf, stitchesOf, scoreOf}
 use Rattle.rules.specs.Questions.{done, ask, andThen, askEach, Valid}
 use Rattle.rules.specs.Calls.{scoreMasks}
 use Rattle.layout.specs.Flat.{piecesOf}
-use Rattle.layout.specs.Adjacency.{Holds, Adjacency, wordGraph}
+use Rattle.layout.specs.Adjacency.{Adjacency, wordGraph}
 use Rattle.layout.proofs.PieceLaws.{pieces-length}
-use Rattle.layout.proofs.AdjacencyLaws.{given-test}
+use Rattle.layout.proofs.AdjacencyLaws.{words-edges}
 use Rattle.scoring.specs.ScoreWords.{conflictIn, stitchIn, maskQuestion}
 use Rattle.rules.proofs.Sums.{pairs-ext}
 use Rattle.rules.proofs.ScoreBounds.{given-le}
@@ -33,12 +32,6 @@ stitch-le words masks u v = given-le (not (sameMask masks u v)) (given-le (hasEd
 
 -- ---- words and graph
 
-held : (joins : ℕ → ℕ → Bool) (n : ℕ) (words : List ℕ) → Holds (λ a b. given (joins a b) 1) n words → n ≤ 512
-    → (u v : ℕ) → u < v → v < n → given (hasEdge words u v) 1 ≡ given (joins u v) 1
-held joins n words holds l u v h k =
-    let e : hasEdge words u v ≡ joins u v = holds .bits u v (omega arith) ∙ rw (lt-ltb u n (omega arith), lt-ltb v n k) (given-test (joins u v)) in
-    rw e
-
 pub words-score : (weight : ℕ) (s : Settings) (ps : List Piece) (n : ℕ) (conflicts stitches masks : List ℕ) → Adjacency s ps n conflicts stitches → n ≤ 512
     → scoreOf weight (wordGraph conflicts stitches) masks n ≡ scoreOf weight (graphOf s ps) masks n
 unfolding scoreOf conflictsOf stitchesOf
@@ -46,11 +39,11 @@ words-score weight s ps n conflicts stitches masks adjacency l = rw (same-confli
   where
     same-conflicts : conflictsOf (wordGraph conflicts stitches) masks n ≡ conflictsOf (graphOf s ps) masks n
     same-conflicts =
-        pairs-ext n λ u v h k. ap (given (sameMask masks u v)) (held (λ a b. conflictEdge s (pieceAt ps a) (pieceAt ps b)) n conflicts (adjacency .conflicts) l u v h k)
+        pairs-ext n λ u v h k. ap (given (sameMask masks u v)) (words-edges (λ a b. conflictEdge s (pieceAt ps a) (pieceAt ps b)) (adjacency .conflicts) l u v (omega arith) k)
 
     same-stitches : stitchesOf (wordGraph conflicts stitches) masks n ≡ stitchesOf (graphOf s ps) masks n
     same-stitches =
-        pairs-ext n λ u v h k. ap (given (not (sameMask masks u v))) (held (λ a b. stitchEdge s (pieceAt ps a) (pieceAt ps b)) n stitches (adjacency .stitches) l u v h k)
+        pairs-ext n λ u v h k. ap (given (not (sameMask masks u v))) (words-edges (λ a b. stitchEdge s (pieceAt ps a) (pieceAt ps b)) (adjacency .stitches) l u v (omega arith) k)
 
 -- ---- the questions of a valid layer's masks
 

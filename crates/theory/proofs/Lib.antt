@@ -15,5 +15,6 @@ pub mod SearchAll
 pub mod Decomposition
 pub mod Neighbours
 pub mod EdgeLists
+pub mod SameEdges
 pub mod Demand3
 pub mod Results

@@ -15,10 +15,10 @@ use Rattle.rules.specs.Score.{maskOf, sameMask, conflictsOf, stitchesOf, scoreO
 use Rattle.rules.specs.Search.{localGraph, added, totalAfter, total}
 use Rattle.rules.specs.Decomposition.{putMasks}
 use Rattle.rules.proofs.Edges.{Undirected}
-use Rattle.rules.proofs.Lists.{_∈_, here, later, Distinct, length-upTo, getD-upTo, upTo-snoc}
+use Rattle.rules.proofs.Lists.{_∈_, here, later, set-each, Distinct, length-upTo, getD-upTo, upTo-snoc}
 use Rattle.rules.proofs.Tests.{by-test}
 use Rattle.theory.proofs.Cost.{sumOf, edgeCost, crossCost, costIn, cost-snoc}
-use Rattle.theory.proofs.Each.{getD-map}
+use Rattle.theory.proofs.Each.{Each, getD-map}
 
 -- ---- Sums by number
 
@@ -97,6 +97,13 @@ unfolding putMasks
 put-length [] p masks = refl
 put-length (v ∷ order) [] masks = refl
 put-length (v ∷ order) (m ∷ p) masks = put-length order p (set masks v m) ∙ length-set masks v m
+
+-- masks below a bound, put down among such
+pub put-below : {K : ℕ} (order p masks : List ℕ) → Each (λ m. m < K) p → ((i : ℕ) → maskOf masks i < K) → (i : ℕ) → maskOf (putMasks order p masks) i < K
+unfolding putMasks
+put-below [] p masks e h i = h i
+put-below (v ∷ order) [] masks e h i = h i
+put-below {K} (v ∷ order) (m ∷ p) masks e h i = put-below order p (set masks v m) (e .1) (set-each (λ x. x < K) masks v m (e .0) h) i
 
 pub put-other : (order p masks : List ℕ) (u : ℕ) → (u ∈ order → ⊥) → maskOf (putMasks order p masks) u ≡ maskOf masks u
 unfolding putMasks

@@ -23,7 +23,7 @@ use Rattle.theory.proofs.Each.{each-image, image-each}
 use Rattle.rules.proofs.Lists.{_∈_, none-in, occurs-in, occurs-out, in-or-out, in-keep, keep-in, Distinct, distinct-keep}
 use Rattle.rules.proofs.Tests.{clash}
 use Rattle.theory.proofs.Cost.{costIn, cost-same}
-use Rattle.theory.proofs.Score.{total-cost, put-length, put-other, put-own, put-cost}
+use Rattle.theory.proofs.Score.{total-cost, put-length, put-below, put-other, put-own, put-cost}
 use Rattle.theory.proofs.Components.{component-in, component-distinct, Partition, end, part, sumParts}
 use Rattle.theory.proofs.Search.{search-sticks}
 use Rattle.theory.proofs.Budget.{Abreast, from-larger, search-within, search-spent}
@@ -64,6 +64,20 @@ module _ (K W : ℕ) (g : Graph) (budget : ℕ) where
   all-spent [] w h s = s
   all-spent (order ∷ orders) w h s =
       all-spent orders (after order w) (search-within _ _ budget (length order) [] 0 _ h) (search-spent _ _ budget (length order) [] 0 _ h s)
+
+  -- there stay as many masks
+  pub all-length : (orders : List (List ℕ)) (w : Reached) → length (searchAll K W budget g orders w .masks) ≡ length (w .masks)
+  unfolding searchAll
+  all-length [] w = refl
+  all-length (order ∷ orders) w = all-length orders (after order w) ∙ put-length order (found order w .incumbent) (w .masks)
+
+  -- masks stay below K
+  pub all-below : 0 < K → (orders : List (List ℕ)) (w : Reached) → ((i : ℕ) → maskOf (w .masks) i < K) → (i : ℕ) → maskOf (searchAll K W budget g orders w .masks) i < K
+  unfolding searchAll
+  all-below pos [] w h = h
+  all-below pos (order ∷ orders) w h =
+      all-below pos orders (after order w)
+      (put-below order (found order w .incumbent) (w .masks) (from-feasible K W (localGraph g order) budget (length order) (w .steps) (w .stopped) pos .below) h)
 
 -- What is reached on the vertices xs with the components cs.
 pub record Settled (K W : ℕ) (g : Graph) (budget : ℕ) (xs : List ℕ) (cs : List (List ℕ)) (w r : Reached) : Type 0 where
