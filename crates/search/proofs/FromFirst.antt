@@ -1,6 +1,6 @@
 -- The search of a component begins at place 0, with the first assignment as the incumbent. Assumes nothing.
 use mathlib.Core.List.{List, []}
-use mathlib.Core.Path.{_≡_, refl, sym, ap, _∙_}
+use mathlib.Core.Path.{_≡_, refl, sym, ap, subst, subst⁻¹, _∙_}
 use Prim.Native.Nat.{ℕ, _-_, _≤_}
 use native.Mathlib.Omega.{arith}
 use lib.ListN.{length, getD, take, set, length-set}
@@ -11,12 +11,22 @@ use Rattle.rules.specs.Search.{different, firstAfter, total}
 use Rattle.places.specs.Local.{localAdded}
 use Rattle.search.specs.Branch.{sizeIn, masksIn, weightIn, stateIn, placesFrom, Ready, Placed}
 use Rattle.search.specs.First.{FirstOf}
+use Rattle.search.specs.Weights.{weightOf, Weights}
 use Rattle.search.specs.Component.{searchLocal, Posed, Searched}
+use Rattle.search.proofs.Tables.{weight-of}
+
+-- a first assignment by the table's weight
+pub first-by : {K weight : ℕ} {table starts list : List ℕ} {n : ℕ} {partial : List ℕ} {c : ℕ} → Weights table weight → FirstOf K (weightOf table) starts list n partial c
+    → FirstOf K weight starts list n partial c
+first-by {K} {weight} {table} {starts} {list} {n} {partial} {c} w first = subst (λ (x : ℕ). FirstOf K x starts list n partial c) (weight-of w) first
 
 module _ {starts list numbers : List ℕ} {left : ℕ} (posed : Posed starts list numbers left) (c : ℕ) where
   -- the incumbent's cost is stored; the other numbers stay
   other : (i : ℕ) → 1 ≤ i → getD (set numbers 0 c) i 0 ≡ getD numbers i 0
   other i h = getD-set-other numbers 0 i c 0 (λ e. omega arith)
+
+  pub weights-first : {table : List ℕ} → Weights table (weightIn numbers) → Weights table (weightIn (set numbers 0 c))
+  weights-first {table} w = subst⁻¹ (Weights table) (other 4 (omega arith)) w
 
   pub ready-first : (partial : List ℕ) → length partial ≡ 512 → Ready starts list partial (set numbers 0 c) 0 0 0 left
   unfolding different anyOf

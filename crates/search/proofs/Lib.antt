@@ -1,5 +1,6 @@
 -- Laws of a local problem.
 pub mod Rows
+pub mod Tables
 pub mod Moves
 pub mod Firsts
 pub mod FromFirst

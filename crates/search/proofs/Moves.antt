@@ -4,22 +4,24 @@ use mathlib.Core.Bool.{Bool, true, _||_}
 use mathlib.Core.List.{List, [], _∷_, _++_}
 use mathlib.Core.Logic.{_⊎_, ⊎-elim}
 use mathlib.Core.Path.{_≡_, refl, sym, ap, ap₂, subst⁻¹, _∙_}
-use Prim.Native.Nat.{ℕ, zero, suc, _+_, _-_, _≤_, _<_, min}
+use Prim.Native.Nat.{ℕ, suc, _+_, _-_, _≤_, _<_, min}
 use native.Mathlib.Numerals.{add-one}
 use native.Mathlib.Omega.{arith}
 use lib.Dec.{eqb, ltb}
 use lib.ListN.{length, getD, take, set, length-set}
 use lib.Seq.{take-take, take-set-le, take-suc-set, getD-take, getD-set-same, getD-set-other, length-take-le}
 use borrow.Author.Tests.{lt-ltb, le-ltb, ltb-true, eq-eqb, ne-eqb}
-use Rattle.rules.specs.Basics.{upFrom, anyOf, occurs}
+use Rattle.rules.specs.Basics.{upFrom, occurs}
 use Rattle.rules.specs.Search.{different, candidates, State, state, step, tryMasks, searchPlaces}
-use Rattle.rules.proofs.Lists.{any-snoc}
-use Rattle.rules.proofs.Tests.{lt-or-ge, by-test}
+use Rattle.rules.proofs.Lists.{any-snoc, occurs-in, place-in}
+use Rattle.rules.proofs.Tests.{lt-or-ge}
 use Rattle.theory.proofs.Renaming.{different-snoc}
 use Rattle.theory.proofs.Search.{at-stop, at-enter, at-skip}
 use Rattle.places.specs.Local.{localAdded, PlaceLists}
 use Rattle.search.specs.Branch.{sizeIn, masksIn, weightIn, budgetIn, triedIn, stateIn, placesFrom, Ready, RowOf, Kept, Placed, Masked}
+use Rattle.search.specs.Weights.{weightOf, Weights}
 use Rattle.search.proofs.Rows.{added-most}
+use Rattle.search.proofs.Tables.{weight-of}
 
 -- ---- Lists of masks
 
@@ -29,12 +31,6 @@ take-stored l p m h = rw (add-one, take-suc-set l p m h)
 
 take-shorter : (l k : List ℕ) (p : ℕ) → take (p + 1) l ≡ take (p + 1) k → take p l ≡ take p k
 take-shorter l k p e = sym (take-take p (p + 1) l (omega arith)) ∙ ap (take p) e ∙ take-take p (p + 1) k (omega arith)
-
-occurs-at : (q : List ℕ) (i : ℕ) → i < length q → occurs (getD q i 0) q ≡ true
-unfolding anyOf
-occurs-at [] i h = absurd (omega arith)
-occurs-at (x ∷ q) zero h = rw (eq-eqb x x refl)
-occurs-at (x ∷ q) (suc i) h = by-test (eqb (getD q i 0) x) (λ e. rw e) (λ e. rw e (occurs-at q i (omega arith)))
 
 -- one mask more, at most u
 below-next : (u m v x : ℕ) → ((m < u) × (v ≡ u)) ⊎ ((m ≡ u) × (v ≡ u + 1)) → (ltb x u || eqb x m) ≡ ltb x v
@@ -64,7 +60,7 @@ module _ {starts list partial numbers : List ℕ} {p c u left : ℕ} (ready : Re
   pub ready-masks : (i : ℕ) → i < p → getD partial i 0 < 8
   ready-masks i h =
       let size : length (take p partial) ≡ p = length-take-le p partial (omega (arith, ready .at, ready .few, ready .whole)) in
-      let there = occurs-at (take p partial) i (omega arith) in
+      let there = occurs-in _ (take p partial) .1 (place-in (take p partial) i (omega arith)) in
       let low = ltb-true _ u (sym (ready .below (getD (take p partial) i 0)) ∙ there) in
       omega (arith, low, getD-take p partial i 0 h, ready .within, ready .masks)
 
@@ -252,6 +248,59 @@ went-as {starts} {list} {partial} {partial₁} {incumbent} {incumbent₁} {numbe
     (subst⁻¹ (λ (x : List ℕ). Went starts list partial partial₁ incumbent incumbent₁ numbers x p c left l m more) g
     (subst⁻¹ (λ (x : ℕ). Went starts list partial partial₁ incumbent incumbent₁ numbers numbers₁ p c left x m more) h w)))
 
+-- the row that was made by the table's weight
+pub row-of : {starts list table partial numbers : List ℕ} {p : ℕ} {row : List ℕ} → Weights table (weightIn numbers)
+    → ((m : ℕ) → m < 8 → getD row m 0 ≡ localAdded (weightOf table) starts list (take p partial) m)
+    → ((m : ℕ) → m < 8 → localAdded (weightIn numbers) starts list (take p partial) m ≤ 131_715_584) → RowOf starts list partial numbers p row
+row-of {starts} {list} {table} {partial} {numbers} {p} {row} w adds small =
+    let same : (m : ℕ) → m < 8 → getD row m 0 ≡ localAdded (weightIn numbers) starts list (take p partial) m = λ m h. adds m h ∙ ap (λ (x : ℕ). localAdded x starts list (take p partial) m) (weight-of w) in
+    record { adds = same; small = λ m h. omega (arith, same m h, small m h) }
+
+-- the row stays that of place p
+pub row-same : {starts list partial partial′ numbers numbers′ : List ℕ} {p left left′ : ℕ} {row : List ℕ}
+    → RowOf starts list partial numbers p row → Kept partial partial′ numbers numbers′ p left left′ → RowOf starts list partial′ numbers′ p row
+row-same {starts} {list} r k =
+    let before = k .before in
+    let weight = k .constants 4 (omega arith) in
+    record {
+      adds = λ m h. r .adds m h ∙ ap₂ (λ (w : ℕ) (q : List ℕ). localAdded w starts list q m) (sym weight) (sym before);
+      small = r .small;
+    }
+
+-- ---- The masks of a place, one after the other
+
+-- The masks before m were tried from the state that has the index 0: the next one may be tried, and those left, tried from here, make what all make.
+pub record MasksLeft (starts list row partial₀ incumbent₀ numbers₀ : List ℕ) (p c u left₀ m₀ more₀ : ℕ) (partial incumbent numbers : List ℕ) (left m more : ℕ) : Type 0 where
+  pub ready : Ready starts list partial numbers p c u left
+  pub adds : RowOf starts list partial numbers p row
+  pub place : p < sizeIn numbers
+  pub tried : m + more ≡ triedIn numbers u
+  pub size : sizeIn numbers ≡ sizeIn numbers₀
+  pub weight : weightIn numbers ≡ weightIn numbers₀
+  pub on : {partial₂ incumbent₂ numbers₂ : List ℕ} {left₂ : ℕ} → Masked starts list partial partial₂ incumbent incumbent₂ numbers numbers₂ p c left m more left₂
+      → Masked starts list partial₀ partial₂ incumbent₀ incumbent₂ numbers₀ numbers₂ p c left₀ m₀ more₀ left₂
+
+pub masks-all : {starts list row partial incumbent numbers : List ℕ} {p c u left m more : ℕ} → Ready starts list partial numbers p c u left → RowOf starts list partial numbers p row
+    → p < sizeIn numbers → m + more ≡ triedIn numbers u → MasksLeft starts list row partial incumbent numbers p c u left m more partial incumbent numbers left m more
+masks-all ready adds place tried = record { ready = ready; adds = adds; place = place; tried = tried; size = refl; weight = refl; on = λ x. x }
+
+pub masks-next : {starts list row partial₀ incumbent₀ numbers₀ partial incumbent numbers partial₁ incumbent₁ numbers₁ : List ℕ} {p c u left₀ m₀ more₀ left m more left₁ : ℕ}
+    → 1 ≤ more → MasksLeft starts list row partial₀ incumbent₀ numbers₀ p c u left₀ m₀ more₀ partial incumbent numbers left m more
+    → Went starts list partial partial₁ incumbent incumbent₁ numbers numbers₁ p c left left₁ m more
+    → MasksLeft starts list row partial₀ incumbent₀ numbers₀ p c u left₀ m₀ more₀ partial₁ incumbent₁ numbers₁ left₁ (m + 1) (more - 1)
+masks-next some l w =
+    let size = w .kept .constants 2 (omega arith) in
+    let masks = w .kept .constants 3 (omega arith) in
+    record {
+      ready = ready-same (l .ready) (w .kept);
+      adds = row-same (l .adds) (w .kept);
+      place = omega (arith, l .place);
+      tried = omega (arith, l .tried);
+      size = size ∙ l .size;
+      weight = w .kept .constants 4 (omega arith) ∙ l .weight;
+      on = λ x. l .on (w .on x);
+    }
+
 -- ---- A place
 
 module _ (starts list partial incumbent numbers : List ℕ) (p c u left : ℕ) (ready : Ready starts list partial numbers p c u left) where
@@ -287,14 +336,3 @@ module _ (starts list partial incumbent numbers : List ℕ) (p c u left : ℕ) (
             ∙ sym (ap (λ (k : ℕ). searchPlaces (localAdded (weightIn numbers) starts list) (candidates (masksIn numbers)) (budgetIn numbers) k (take p partial) c (stateIn incumbent numbers left)) none-left);
         kept = record { before = refl; whole = ready .whole; numbered = simp length-set (ready .numbered); constants = constants; fewer = omega arith };
       }
-
--- the row stays that of place p
-pub row-same : {starts list partial partial′ numbers numbers′ : List ℕ} {p left left′ : ℕ} {row : List ℕ}
-    → RowOf starts list partial numbers p row → Kept partial partial′ numbers numbers′ p left left′ → RowOf starts list partial′ numbers′ p row
-row-same {starts} {list} r k =
-    let before = k .before in
-    let weight = k .constants 4 (omega arith) in
-    record {
-      adds = λ m h. r .adds m h ∙ ap₂ (λ (w : ℕ) (q : List ℕ). localAdded w starts list q m) (sym weight) (sym before);
-      small = r .small;
-    }

@@ -5,7 +5,7 @@ use mathlib.Core.Logic.{by-cases}
 use mathlib.Core.Path.{_≡_, refl, sym, ap, _∙_}
 use Prim.Native.Nat.{ℕ, zero, suc, _+_, _-_, _*_, _≤_, _<_}
 use native.Mathlib.Decide.{ℕ-discrete}
-use native.Mathlib.Nat.{mul-add, mul-le-mul, le-refl}
+use native.Mathlib.Nat.{mul-le-mul, le-refl}
 use native.Mathlib.Omega.{arith}
 use lib.Dec.{eqb}
 use lib.ListN.{length, getD, take, set, replicate, getD-replicate}
@@ -60,18 +60,6 @@ off-same list p q m a b h = sum-ext (b - a) (λ j l. ap (λ (x : ℕ). given (no
 module _ (list p sums row : List ℕ) (a i : ℕ) (h : a ≤ i) (size : length sums ≡ 8) (small : getD p (getD list i 0) 0 < 8) where
   abbrev mask : ℕ
   mask = getD p (getD list i 0) 0
-
-  -- the weight is added to the entry's mask
-  pub row-more : (weight : ℕ) → ((m : ℕ) → m < 8 → getD sums m 0 ≡ getD row m 0 + weight * onMask list p m a i)
-      → (m : ℕ) → m < 8 → getD (set sums mask (getD sums mask 0 + weight)) m 0 ≡ getD row m 0 + weight * onMask list p m a (i + 1)
-  row-more weight e m l = by-cases (ℕ-discrete mask m)
-      (λ q.
-      let one : onMask list p m a (i + 1) ≡ onMask list p m a i + 1 = on-next list p m a i h ∙ rw (eq-eqb mask m q) in
-      ap (λ (k : ℕ). getD (set sums mask (getD sums mask 0 + weight)) k 0) (sym q) ∙ getD-set-same sums mask (getD sums mask 0 + weight) 0 (omega arith)
-      ∙ omega (arith, e m l, ap (λ (k : ℕ). getD sums k 0) q, ap (λ (k : ℕ). weight * k) one, mul-add weight (onMask list p m a i) 1))
-      (λ n.
-      let one : onMask list p m a (i + 1) ≡ onMask list p m a i = on-next list p m a i h ∙ rw (ne-eqb mask m n) (omega arith) in
-      getD-set-other sums mask m (getD sums mask 0 + weight) 0 (λ q. n (sym q)) ∙ e m l ∙ ap (λ (k : ℕ). getD row m 0 + weight * k) (sym one))
 
   -- one is taken off the entry's mask
   pub row-less : ((m : ℕ) → m < 8 → getD sums m 0 + onMask list p m a i ≡ getD row m 0) → 1 ≤ getD sums mask 0

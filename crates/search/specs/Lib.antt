@@ -1,3 +1,4 @@
+pub mod Weights
 pub mod Branch
 pub mod First
 pub mod Component

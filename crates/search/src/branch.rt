@@ -6,7 +6,8 @@
 ghost use mathlib.Core.Path.{_≡_};
 ghost use Prim.Native.Nat.{_+_, _<_};
 ghost use lib.ListN.{set};
-ghost use Rattle.search.specs.Branch.{Ready, RowOf, Placed, Masked, sizeIn, triedIn};
+ghost use Rattle.search.specs.Branch.{Ready, RowOf, Placed, Masked, sizeIn, weightIn, triedIn};
+ghost use Rattle.search.specs.Weights.{Weights};
 use crate::row::added_row;
 
 // The partial assignment becomes the incumbent.
@@ -39,6 +40,7 @@ pub fn put(partial: &mut [u8; 512], i: usize, m: u8)
 pub fn search_place(
     starts: &[u32; 1025],
     list: &[u16; 131584],
+    table: &[u32; 64],
     partial: &mut [u8; 512],
     incumbent: &mut [u8; 512],
     numbers: &mut [u64; 6],
@@ -48,6 +50,7 @@ pub fn search_place(
     left: u64,
 ) -> u64
     requires { ⌜ Ready (now starts) (now list) (now partial) (now numbers) p cost used left ⌝ }
+    requires { ⌜ Weights (now table) (weightIn (now numbers)) ⌝ }
     ensures { λ r. ⌜ Placed (now (starts .entry)) (now (list .entry)) (now (partial .entry)) (now (partial .exit)) (now (incumbent .entry)) (now (incumbent .exit)) (now (numbers .entry)) (now (numbers .exit)) p cost left r ⌝ }
 {
     if numbers[2] <= p as u64 {
@@ -55,12 +58,13 @@ pub fn search_place(
         store(numbers, 0, cost);
         return left;
     }
-    let row = added_row(starts, list, partial, p, numbers[4]);
+    let row = added_row(starts, list, table, partial, p);
     let masks = numbers[3];
     let more = if used < masks { used + 1 } else { masks };
     search_masks(
         starts,
         list,
+        table,
         partial,
         incumbent,
         numbers,
@@ -78,6 +82,7 @@ pub fn search_place(
 fn search_masks(
     starts: &[u32; 1025],
     list: &[u16; 131584],
+    table: &[u32; 64],
     partial: &mut [u8; 512],
     incumbent: &mut [u8; 512],
     numbers: &mut [u64; 6],
@@ -85,52 +90,45 @@ fn search_masks(
     cost: u64,
     used: u64,
     left: u64,
-    row: &[u64; 8],
+    row: &[u32; 8],
     m: u64,
     more: u64,
 ) -> u64
     requires { ⌜ Ready (now starts) (now list) (now partial) (now numbers) p cost used left ⌝ }
     requires { ⌜ RowOf (now starts) (now list) (now partial) (now numbers) p (now row) ⌝ }
     requires { ⌜ (p < sizeIn (now numbers)) × (m + more ≡ triedIn (now numbers) used) ⌝ }
+    requires { ⌜ Weights (now table) (weightIn (now numbers)) ⌝ }
     ensures { λ r. ⌜ Masked (now (starts .entry)) (now (list .entry)) (now (partial .entry)) (now (partial .exit)) (now (incumbent .entry)) (now (incumbent .exit)) (now (numbers .entry)) (now (numbers .exit)) p cost left m more r ⌝ }
 {
-    if more == 0 {
-        return left;
+    let mut rest = left;
+    let mut mask = m;
+    let mut untried = more;
+    while 0 < untried {
+        if rest == 0 {
+            store(numbers, 1, 1);
+            return 0;
+        }
+        let total = cost + row[mask as usize] as u64;
+        rest = if total < numbers[0] {
+            put(partial, p, mask as u8);
+            let next = if mask < used { used } else { used + 1 };
+            search_place(
+                starts,
+                list,
+                table,
+                partial,
+                incumbent,
+                numbers,
+                p + 1,
+                total,
+                next,
+                rest - 1,
+            )
+        } else {
+            rest - 1
+        };
+        mask += 1;
+        untried -= 1;
     }
-    if left == 0 {
-        store(numbers, 1, 1);
-        return 0;
-    }
-    let total = cost + row[m as usize];
-    let rest = if total < numbers[0] {
-        put(partial, p, m as u8);
-        let next = if m < used { used } else { used + 1 };
-        search_place(
-            starts,
-            list,
-            partial,
-            incumbent,
-            numbers,
-            p + 1,
-            total,
-            next,
-            left - 1,
-        )
-    } else {
-        left - 1
-    };
-    search_masks(
-        starts,
-        list,
-        partial,
-        incumbent,
-        numbers,
-        p,
-        cost,
-        used,
-        rest,
-        row,
-        m + 1,
-        more - 1,
-    )
+    rest
 }

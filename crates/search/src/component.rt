@@ -4,6 +4,7 @@ use crate::branch::hold;
 use crate::branch::search_place;
 use crate::branch::store;
 use crate::first::first_assignment;
+use crate::row::weight_table;
 
 // Leaves the best masks that were found in `incumbent`, and their cost and whether the search was stopped in `numbers`, where the rest is
 // given. Answers how many of the `left` steps are left then.
@@ -17,20 +18,22 @@ pub fn search_component(
     requires { ⌜ Posed (now starts) (now list) (now numbers) left ⌝ }
     ensures { λ r. ⌜ Searched (now (starts .entry)) (now (list .entry)) (now (incumbent .exit)) (now (numbers .entry)) (now (numbers .exit)) left r ⌝ }
 {
+    let table = weight_table(numbers[4]);
     let mut partial = [0u8; 512];
     let cost = first_assignment(
         starts,
         list,
+        &table,
         &mut partial,
         numbers[2] as usize,
         numbers[3],
-        numbers[4],
     );
     hold(&partial, incumbent);
     store(numbers, 0, cost);
     search_place(
         starts,
         list,
+        &table,
         &mut partial,
         incumbent,
         numbers,

@@ -5,11 +5,12 @@ ghost use lib.ListN.{length, getD};
 ghost use Rattle.rules.specs.Search.{cheapest};
 ghost use Rattle.places.specs.Local.{PlaceLists};
 ghost use Rattle.search.specs.First.{FirstOf};
+ghost use Rattle.search.specs.Weights.{weightOf, Weights};
 use crate::branch::put;
 use crate::row::added_row;
 
 // The mask at which the row is least, the lowest on a tie.
-fn cheapest_mask(row: &[u64; 8], masks: u64) -> u64
+fn cheapest_mask(row: &[u32; 8], masks: u64) -> u64
     requires { ⌜ (1 ≤ masks) × (masks ≤ 8) ⌝ }
     ensures { λ r. ⌜ r ≡ cheapest (λ m. getD (now (row .entry)) m 0) masks ⌝ }
 {
@@ -28,22 +29,23 @@ fn cheapest_mask(row: &[u64; 8], masks: u64) -> u64
 pub fn first_assignment(
     starts: &[u32; 1025],
     list: &[u16; 131584],
+    table: &[u32; 64],
     partial: &mut [u8; 512],
     size: usize,
     masks: u64,
-    weight: u64,
 ) -> u64
-    requires { ⌜ (size ≤ 512) × (1 ≤ masks) × (masks ≤ 8) × (weight ≤ 1000) × (length (now partial) ≡ 512) ⌝ }
+    requires { ⌜ (size ≤ 512) × (1 ≤ masks) × (masks ≤ 8) × (length (now partial) ≡ 512) ⌝ }
+    requires { ⌜ Weights (now table) (weightOf (now table)) ⌝ }
     requires { ⌜ ((k : ℕ) → k < size → PlaceLists (now starts) (now list) k) ⌝ }
-    ensures { λ r. ⌜ FirstOf masks weight (now (starts .entry)) (now (list .entry)) size (now (partial .exit)) r ⌝ }
+    ensures { λ r. ⌜ FirstOf masks (weightOf (now (table .entry))) (now (starts .entry)) (now (list .entry)) size (now (partial .exit)) r ⌝ }
 {
     let mut cost = 0;
     let mut k = 0;
     while k < size {
-        let row = added_row(starts, list, partial, k, weight);
+        let row = added_row(starts, list, table, partial, k);
         let m = cheapest_mask(&row, masks);
         put(partial, k, m as u8);
-        cost += row[m as usize];
+        cost += row[m as usize] as u64;
         k += 1;
     }
     cost

@@ -1,30 +1,64 @@
 // What each mask adds at a place, against its earlier neighbours: one pass over them fills a row, so that a mask that is tried costs
-// one comparison.
+// one comparison. The weight is added from a table, to all eight masks at once, which needs no branch and no index into the row.
 ghost use mathlib.Core.Path.{_≡_};
 ghost use Prim.Native.Nat.{ℕ, _+_, _-_, _*_, _≤_, _<_};
 ghost use lib.ListN.{length, getD, take};
+ghost use lib.Dec.{eqb};
+ghost use Rattle.rules.specs.Basics.{given};
 ghost use Rattle.places.specs.Local.{onMask, localAdded, PlaceLists};
+ghost use Rattle.search.specs.Weights.{weightOf, Weights};
+
+// A table of the weight.
+pub fn weight_table(weight: u64) -> [u32; 64]
+    requires { ⌜ weight ≤ 1000 ⌝ }
+    ensures { λ r. ⌜ Weights r weight ⌝ }
+{
+    let mut table = [0u32; 64];
+    let mut h = 0;
+    while h < 8 {
+        table[9 * h] = weight as u32;
+        h += 1;
+    }
+    table
+}
+
+// The costs with the weight added for one mask.
+fn add_weight(row: [u32; 8], table: &[u32; 64], mask: usize) -> [u32; 8]
+    requires { ⌜ mask < 8 ⌝ }
+    requires { ⌜ Weights (now table) (weightOf (now table)) ⌝ }
+    requires { ⌜ ((m : ℕ) → m < 8 → getD row m 0 ≤ 131715584) ⌝ }
+    ensures { λ r. ⌜ ((m : ℕ) → m < 8 → getD r m 0 ≡ getD row m 0 + given (eqb mask m) (weightOf (now (table .entry)))) ⌝ }
+{
+    let mut sums = row;
+    let mut m = 0;
+    while m < 8 {
+        sums[m] += table[8 * mask + m];
+        m += 1;
+    }
+    sums
+}
 
 // The weight for each entry with its mask.
 fn add_conflicts(
     list: &[u16; 131584],
+    table: &[u32; 64],
     partial: &[u8; 512],
-    row: [u64; 8],
+    row: [u32; 8],
     from: usize,
     to: usize,
-    weight: u64,
-) -> [u64; 8]
-    requires { ⌜ (from ≤ to) × (to ≤ 131584) × (weight ≤ 1000) ⌝ }
+) -> [u32; 8]
+    requires { ⌜ (from ≤ to) × (to ≤ 131584) ⌝ }
+    requires { ⌜ Weights (now table) (weightOf (now table)) ⌝ }
     requires { ⌜ ((i : ℕ) → from ≤ i → i < to → getD (now list) i 0 < 512) ⌝ }
     requires { ⌜ ((i : ℕ) → from ≤ i → i < to → getD (now partial) (getD (now list) i 0) 0 < 8) ⌝ }
     requires { ⌜ ((m : ℕ) → getD row m 0 ≤ 131584) ⌝ }
-    ensures { λ r. ⌜ ((m : ℕ) → m < 8 → getD r m 0 ≡ getD row m 0 + weight * onMask (now (list .entry)) (now (partial .entry)) m from to) ⌝ }
+    ensures { λ r. ⌜ ((m : ℕ) → m < 8 → getD r m 0 ≡ getD row m 0 + weightOf (now (table .entry)) * onMask (now (list .entry)) (now (partial .entry)) m from to) ⌝ }
 {
     let mut sums = row;
     let mut i = from;
     while i < to {
-        let mask = partial[list[i] as usize] as usize;
-        sums[mask] += weight;
+        let more = add_weight(sums, table, partial[list[i] as usize] as usize);
+        sums = more;
         i += 1;
     }
     sums
@@ -34,10 +68,10 @@ fn add_conflicts(
 fn drop_stitches(
     list: &[u16; 131584],
     partial: &[u8; 512],
-    row: [u64; 8],
+    row: [u32; 8],
     from: usize,
     to: usize,
-) -> [u64; 8]
+) -> [u32; 8]
     requires { ⌜ (from ≤ to) × (to ≤ 131584) ⌝ }
     requires { ⌜ ((i : ℕ) → from ≤ i → i < to → getD (now list) i 0 < 512) ⌝ }
     requires { ⌜ ((i : ℕ) → from ≤ i → i < to → getD (now partial) (getD (now list) i 0) 0 < 8) ⌝ }
@@ -58,19 +92,20 @@ fn drop_stitches(
 pub fn added_row(
     starts: &[u32; 1025],
     list: &[u16; 131584],
+    table: &[u32; 64],
     partial: &[u8; 512],
     k: usize,
-    weight: u64,
-) -> [u64; 8]
-    requires { ⌜ (k < 512) × (weight ≤ 1000) × (k ≤ length (now partial)) ⌝ }
+) -> [u32; 8]
+    requires { ⌜ (k < 512) × (k ≤ length (now partial)) ⌝ }
+    requires { ⌜ Weights (now table) (weightOf (now table)) ⌝ }
     requires { ⌜ PlaceLists (now starts) (now list) k ⌝ }
     requires { ⌜ ((i : ℕ) → i < k → getD (now partial) i 0 < 8) ⌝ }
-    ensures { λ r. ⌜ ((m : ℕ) → m < 8 → getD r m 0 ≡ localAdded weight (now (starts .entry)) (now (list .entry)) (take k (now (partial .entry))) m) ⌝ }
+    ensures { λ r. ⌜ ((m : ℕ) → m < 8 → getD r m 0 ≡ localAdded (weightOf (now (table .entry))) (now (starts .entry)) (now (list .entry)) (take k (now (partial .entry))) m) ⌝ }
 {
     let from = starts[2 * k] as usize;
     let middle = starts[2 * k + 1] as usize;
     let to = starts[2 * k + 2] as usize;
-    let stitches = (to - middle) as u64;
-    let conflicts = add_conflicts(list, partial, [stitches; 8], from, middle, weight);
+    let stitches = (to - middle) as u32;
+    let conflicts = add_conflicts(list, table, partial, [stitches; 8], from, middle);
     drop_stitches(list, partial, conflicts, middle, to)
 }

@@ -41,14 +41,14 @@ cast-result c =
     let turn = c .before .before in
     let loop = turn .before .loop in
     let start = turn .before .before in
-    omega (arith, start .pre .1 (loop .i) (turn .loop-test .taken), loop .inv .1)
+    omega (arith, start .pre .1 (loop .i) (omega (arith, turn .loop-test .taken)), loop .inv .1)
 
 slice-write-result : tie.Need-slice-write-result Inv-loop μ-loop
 slice-write-result c =
     let turn = c .before .before in
     let loop = turn .before .loop in
     let start = turn .before .before in
-    omega (arith, start .pre .1 (loop .i) (turn .loop-test .taken), loop .inv .1)
+    omega (arith, start .pre .1 (loop .i) (omega (arith, turn .loop-test .taken)), loop .inv .1)
 
 add-i : tie.Need-add-i Inv-loop μ-loop
 add-i c =

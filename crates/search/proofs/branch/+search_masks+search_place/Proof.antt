@@ -1,5 +1,5 @@
--- The search: each of its two functions does what the rules say of a place and of its masks, given that calls further on do (by the measure:
--- places left, then masks left). Assumes nothing.
+-- The search: each of its two functions does what the rules say of a place and of its masks, given that calls further on do. The calls fall
+-- in the places and masks left, and the loop over a place's masks in the masks left. Assumes nothing.
 use native.Mathlib.Omega.{arith}
 use mathlib.Core.List.{List}
 use mathlib.Core.Logic.{_⊎_, inl, inr, ⊎-elim}
@@ -9,7 +9,9 @@ use denote.Ref.{now}
 use lib.ListN.{getD, set}
 use borrow.Author.Needs.{needs}
 use Rattle.search.specs.Branch.{sizeIn, masksIn, triedIn, Ready, RowOf, Placed, Masked}
-use Rattle.search.proofs.Moves.{ready-masks, ready-next, ready-same, added-small, masked-none, masked-stop, masked-skip, kept-below, masked-enter, Went, went-as, placed-masks, placed-last, row-same}
+use Rattle.search.specs.Weights.{Weights}
+use Rattle.search.proofs.Tables.{weights-own}
+use Rattle.search.proofs.Moves.{row-of, ready-masks, ready-next, added-small, masked-none, masked-stop, masked-skip, kept-below, masked-enter, Went, went-as, MasksLeft, masks-all, masks-next, placed-masks, placed-last}
 use borrow.Fn.Kinds.{In}
 use borrow.Fn.PlainCycle.{Measures, is, falls, and}
 use Rattle.search.proofs.branch.search_masks.Reads as search-masks
@@ -25,35 +27,42 @@ use Rattle.search.proofs.row.added_row.Reads as added-row-reads
 use Rattle.search.proofs.branch.+search_masks+search_place.{statement}
 use Rattle.search.proofs.branch.+search_masks+search_place.Tie.{close}
 
-abbrev μ-search-masks : Measures 6 search-masks-kinds.ps ℕ
-μ-search-masks κs a = (sizeIn (now (a .1 .1 .1 .1 .0)) - a .1 .1 .1 .1 .1 .0) * 16 + a .1 .1 .1 .1 .1 .1 .1 .1 .1 .1 .1 .0
+abbrev μ-search-masks : Measures 7 search-masks-kinds.ps ℕ
+μ-search-masks κs a = (sizeIn (now (a .1 .1 .1 .1 .1 .0)) - a .1 .1 .1 .1 .1 .1 .0) * 16 + a .1 .1 .1 .1 .1 .1 .1 .1 .1 .1 .1 .1 .0
 
-abbrev μ-search-place : Measures 5 search-place-kinds.ps ℕ
-μ-search-place κs a = (sizeIn (now (a .1 .1 .1 .1 .0)) - a .1 .1 .1 .1 .1 .0) * 16 + 15
+abbrev μ-search-place : Measures 6 search-place-kinds.ps ℕ
+μ-search-place κs a = (sizeIn (now (a .1 .1 .1 .1 .1 .0)) - a .1 .1 .1 .1 .1 .1 .0) * 16 + 15
 
-abbrev search-masks-at : ℕ → In 6 search-masks-kinds.ps
+abbrev search-masks-at : ℕ → In 7 search-masks-kinds.ps
 search-masks-at t =
-    and 6 search-masks-kinds.ps (is 6 search-masks-kinds.ps μ-search-masks t) search-masks.Pre
+    and 7 search-masks-kinds.ps (is 7 search-masks-kinds.ps μ-search-masks t) search-masks.Pre
 
-abbrev search-masks-below : ℕ → In 6 search-masks-kinds.ps
+abbrev search-masks-below : ℕ → In 7 search-masks-kinds.ps
 search-masks-below t =
     and
-    6
+    7
     search-masks-kinds.ps
-    (falls 6 search-masks-kinds.ps _<_ μ-search-masks t)
+    (falls 7 search-masks-kinds.ps _<_ μ-search-masks t)
     search-masks.Pre
 
-abbrev search-place-at : ℕ → In 5 search-place-kinds.ps
+abbrev search-place-at : ℕ → In 6 search-place-kinds.ps
 search-place-at t =
-    and 5 search-place-kinds.ps (is 5 search-place-kinds.ps μ-search-place t) search-place.Pre
+    and 6 search-place-kinds.ps (is 6 search-place-kinds.ps μ-search-place t) search-place.Pre
 
-abbrev search-place-below : ℕ → In 5 search-place-kinds.ps
+abbrev search-place-below : ℕ → In 6 search-place-kinds.ps
 search-place-below t =
     and
-    5
+    6
     search-place-kinds.ps
-    (falls 5 search-place-kinds.ps _<_ μ-search-place t)
+    (falls 6 search-place-kinds.ps _<_ μ-search-place t)
     search-place.Pre
+
+abbrev Inv-loop : search-masks-lts.InvT-loop
+Inv-loop starts list table partial₀ incumbent₀ numbers₀ p cost used left row m more rest₀ mask₀ untried₀ partial incumbent numbers rest mask untried =
+    MasksLeft starts list row partial₀ incumbent₀ numbers₀ p cost used left m more partial incumbent numbers rest mask untried
+
+abbrev μ-loop : search-masks-lts.MeasureT-loop
+μ-loop starts list table partial₀ incumbent₀ numbers₀ p cost used left row m more rest₀ mask₀ untried₀ partial incumbent numbers rest mask untried = untried
 
 module _ (t : ℕ) where
   -- what the callees ask and tell; within the pair, below the measure t
@@ -65,8 +74,6 @@ module _ (t : ℕ) where
     put-reads.Learnt,
     search-place-below t,
     search-place.Post,
-    search-masks-below t,
-    search-masks.Post,
   )
 
   abbrev search-place-told : search-place-lts.Claims
@@ -84,156 +91,158 @@ module _ (t : ℕ) where
   -- ---- The masks of a place
 
   abbrev Tried : Type 0
-  Tried = search-masks-lts.Else2 search-masks-told (search-masks-at t) search-masks.Post
+  Tried = search-masks-lts.Else1 search-masks-told (search-masks-at t) search-masks.Post Inv-loop μ-loop
 
   -- a mask is tried: there is one, and a step is left
   module _ (c : Tried) where
-    abbrev begun : search-masks-lts.Start search-masks-told (search-masks-at t) search-masks.Post
-    begun = c .before .before
+    abbrev begun : search-masks-lts.Start search-masks-told (search-masks-at t) search-masks.Post Inv-loop μ-loop
+    begun = c .before .before .before
 
-    some : 1 ≤ begun .args .more
-    some = omega (arith, c .before .if1 .left)
+    abbrev at : search-masks-lts.At-loop search-masks-told (search-masks-at t) search-masks.Post Inv-loop μ-loop
+    at = c .before .before
 
-    afford : 1 ≤ begun .args .left
-    afford = omega (arith, c .if2 .left)
+    some : 1 ≤ at .loop .untried
+    some = omega (arith, c .before .loop-test .taken)
 
-    is-mask : begun .args .m < masksIn (begun .args .numbers .now)
-    is-mask = omega (arith, some, begun .pre .1 .1 .1)
+    afford : 1 ≤ at .loop .rest
+    afford = omega (arith, c .if1 .left)
 
-    low : begun .args .m < 8
-    low = omega (arith, is-mask, begun .pre .1 .0 .masks)
+    is-mask : at .loop .mask < masksIn (at .loop .numbers)
+    is-mask = omega (arith, some, at .loop .inv .tried)
+
+    low : at .loop .mask < 8
+    low = omega (arith, is-mask, at .loop .inv .ready .masks)
 
     abbrev adds : ℕ
-    adds = getD (begun .args .row .now) (begun .args .m) 0
+    adds = getD (begun .args .row .now) (at .loop .mask) 0
 
-  -- mask m was tried: entered or not
-  module _ (c : search-masks-lts.Joined3 search-masks-told (search-masks-at t) search-masks.Post) where
+  -- the mask was tried: entered or not
+  module _ (c : search-masks-lts.Joined2 search-masks-told (search-masks-at t) search-masks.Post Inv-loop μ-loop) where
     abbrev tried : Tried
     tried = c .before .before .before
 
-    abbrev a : search-masks-lts.Args search-masks-told (search-masks-at t) search-masks.Post (begun tried .κs)
-    a = begun tried .args
-
-    abbrev ready : Ready (a .starts .now) (a .list .now) (a .partial .now) (a .numbers .now) (a .p) (a .cost) (a .used) (a .left)
-    ready = begun tried .pre .1 .0
-
-    went : Went (a .starts .now) (a .list .now) (a .partial .now) (c .if3 .partial) (a .incumbent .now) (c .if3 .incumbent) (a .numbers .now) (c .if3 .numbers) (a .p) (a .cost) (a .left) (c .if3 .rest)
-        (a .m) (a .more)
+    went : let a = begun tried .args in let l = at tried .loop in
+        Went (a .starts .now) (a .list .now) (l .partial) (c .if2 .partial) (l .incumbent) (c .if2 .incumbent) (l .numbers) (c .if2 .numbers) (a .p) (a .cost) (l .rest) (c .if2 .rest) (l .mask) (l .untried)
     went =
-        let row = begun tried .pre .1 .1 .0 .adds (a .m) (low tried) in
+        let a = begun tried .args in
+        let l = at tried .loop in
+        let ready = l .inv .ready in
+        let row = l .inv .adds .adds (l .mask) (low tried) in
         ⊎-elim
         (λ w.
         let d = w .7 in
-        let partial₁ = d .last .1 .1 .0 in
-        let incumbent₁ = d .last .1 .1 .1 .0 in
-        let numbers₁ = d .last .1 .1 .1 .1 .0 in
-        let one : Placed (a .starts .now) (a .list .now) (set (a .partial .now) (a .p) (a .m)) partial₁ (a .incumbent .now) incumbent₁ (a .numbers .now) numbers₁ (a .p + 1) (a .cost + adds tried) (a .left - 1) (d .result)
-        = subst (λ (l : List ℕ). Placed (a .starts .now) (a .list .now) l partial₁ (a .incumbent .now) incumbent₁ (a .numbers .now) numbers₁ (a .p + 1) (a .cost + adds tried) (a .left - 1) (d .result)) (w .2 .ensures) (d .ensures) in
+        let partial₁ = d .last .1 .1 .1 .0 in
+        let incumbent₁ = d .last .1 .1 .1 .1 .0 in
+        let numbers₁ = d .last .1 .1 .1 .1 .1 .0 in
+        let one : Placed (a .starts .now) (a .list .now) (set (l .partial) (a .p) (l .mask)) partial₁ (l .incumbent) incumbent₁ (l .numbers) numbers₁ (a .p + 1) (a .cost + adds tried) (l .rest - 1) (d .result)
+        = subst (λ (x : List ℕ). Placed (a .starts .now) (a .list .now) x partial₁ (l .incumbent) incumbent₁ (l .numbers) numbers₁ (a .p + 1) (a .cost + adds tried) (l .rest - 1) (d .result)) (w .2 .ensures) (d .ensures) in
         went-as (w .8) (w .9) (w .10) (w .11)
         record {
-          kept = kept-below (a .starts .now) (a .list .now) (a .partial .now) (a .incumbent .now) (a .numbers .now) (a .p) (a .cost) (a .used) (a .left) (a .m) (a .more) ready (adds tried) (some tried) (afford tried) row (begun tried .pre .1 .1 .1 .0) one;
-          on = masked-enter (a .starts .now) (a .list .now) (a .partial .now) (a .incumbent .now) (a .numbers .now) (a .p) (a .cost) (a .used) (a .left) (a .m) (a .more) ready (adds tried) (some tried) (afford tried) row (begun tried .pre .1 .1 .1 .0) one (w .0 .taken);
+          kept = kept-below (a .starts .now) (a .list .now) (l .partial) (l .incumbent) (l .numbers) (a .p) (a .cost) (a .used) (l .rest) (l .mask) (l .untried) ready (adds tried) (some tried) (afford tried) row (l .inv .place) one;
+          on = masked-enter (a .starts .now) (a .list .now) (l .partial) (l .incumbent) (l .numbers) (a .p) (a .cost) (a .used) (l .rest) (l .mask) (l .untried) ready (adds tried) (some tried) (afford tried) row (l .inv .place) one (w .0 .taken);
         })
         (λ w.
         went-as (w .1) (w .2) (w .3) (w .4)
         record {
           kept = record { before = refl; whole = ready .whole; numbered = ready .numbered; constants = λ i h. refl; fewer = omega arith };
-          on = masked-skip (a .starts .now) (a .list .now) (a .partial .now) (a .incumbent .now) (a .numbers .now) (a .p) (a .cost) (a .used) (a .left) (a .m) (a .more) ready (adds tried) (some tried) (afford tried) row (w .0 .left);
+          on = masked-skip (a .starts .now) (a .list .now) (l .partial) (l .incumbent) (l .numbers) (a .p) (a .cost) (a .used) (l .rest) (l .mask) (l .untried) ready (adds tried) (some tried) (afford tried) row (w .0 .left);
         })
-        (c .if3 .came)
+        (c .if2 .came)
 
-  search-masks-returns : search-masks-lts.Need-returns search-masks-told (search-masks-at t) search-masks.Post
-  search-masks-returns c =
-      let s = c .before in
-      let a = s .args in
-      masked-none (a .starts .now) (a .list .now) (a .partial .now) (a .incumbent .now) (a .numbers .now) (a .p) (a .cost) (a .used) (a .left) (a .m) (a .more) (s .pre .1 .0) (c .if1 .taken)
+  search-masks-loop-holds : search-masks-lts.Need-loop-holds search-masks-told (search-masks-at t) search-masks.Post Inv-loop μ-loop
+  search-masks-loop-holds c = let pre = c .pre .1 in masks-all (pre .0) (pre .1 .0) (pre .1 .1 .0 .0) (pre .1 .1 .0 .1)
 
-  search-masks-store-requires : search-masks-lts.Need-store-requires search-masks-told (search-masks-at t) search-masks.Post
+  search-masks-store-requires : search-masks-lts.Need-store-requires search-masks-told (search-masks-at t) search-masks.Post Inv-loop μ-loop
   search-masks-store-requires c κs = omega arith
 
-  search-masks-returns-2 : search-masks-lts.Need-returns-2 search-masks-told (search-masks-at t) search-masks.Post
-  search-masks-returns-2 c =
+  search-masks-returns : search-masks-lts.Need-returns search-masks-told (search-masks-at t) search-masks.Post Inv-loop μ-loop
+  search-masks-returns c =
       let spent = c .before .before in
-      let s = spent .before .before in
-      let a = s .args in
-      subst⁻¹ (λ (ns : List ℕ). Masked (a .starts .now) (a .list .now) (a .partial .now) (a .partial .now) (a .incumbent .now) (a .incumbent .now) (a .numbers .now) ns (a .p) (a .cost) (a .left) (a .m) (a .more) 0) (c .store .ensures)
-      (masked-stop (a .starts .now) (a .list .now) (a .partial .now) (a .incumbent .now) (a .numbers .now) (a .p) (a .cost) (a .used) (a .left) (a .m) (a .more) (s .pre .1 .0) (omega (arith, spent .before .if1 .left)) (spent .if2 .taken))
+      let l = c .before .before .before .before .loop in
+      let a = c .before .before .before .before .before .args in
+      l .inv .on
+      (subst⁻¹ (λ (ns : List ℕ). Masked (a .starts .now) (a .list .now) (l .partial) (l .partial) (l .incumbent) (l .incumbent) (l .numbers) ns (a .p) (a .cost) (l .rest) (l .mask) (l .untried) 0) (c .store .ensures)
+      (masked-stop (a .starts .now) (a .list .now) (l .partial) (l .incumbent) (l .numbers) (a .p) (a .cost) (a .used) (l .rest) (l .mask) (l .untried) (l .inv .ready) (omega (arith, spent .before .loop-test .taken)) (spent .if1 .taken)))
 
-  search-masks-mul-total : search-masks-lts.Need-mul-total search-masks-told (search-masks-at t) search-masks.Post
+  search-masks-mul-total : search-masks-lts.Need-mul-total search-masks-told (search-masks-at t) search-masks.Post Inv-loop μ-loop
   search-masks-mul-total c = omega (arith, low c)
 
-  search-masks-element-copy-out-total : search-masks-lts.Need-element-copy-out-total search-masks-told (search-masks-at t) search-masks.Post
+  search-masks-element-copy-out-total : search-masks-lts.Need-element-copy-out-total search-masks-told (search-masks-at t) search-masks.Post Inv-loop μ-loop
   search-masks-element-copy-out-total c = omega (arith, low c)
 
-  search-masks-add-total : search-masks-lts.Need-add-total search-masks-told (search-masks-at t) search-masks.Post
+  search-masks-cast-total : search-masks-lts.Need-cast-total search-masks-told (search-masks-at t) search-masks.Post Inv-loop μ-loop
+  search-masks-cast-total c =
+      let l = at (c .before) .loop in
+      omega (arith, l .inv .adds .small (l .mask) (low (c .before)))
+
+  search-masks-add-total : search-masks-lts.Need-add-total search-masks-told (search-masks-at t) search-masks.Post Inv-loop μ-loop
   search-masks-add-total c =
-      let s = c .before .before .before in
-      omega (arith, s .pre .1 .1 .0 .small (s .args .m) (low (c .before)), s .pre .1 .0 .cheap, s .pre .1 .0 .at, s .pre .1 .0 .few)
+      let l = at (c .before) .loop in
+      omega (arith, l .inv .adds .small (l .mask) (low (c .before)), l .inv .ready .cheap, l .inv .ready .at, l .inv .ready .few)
 
-  search-masks-element-copy-out-if3 : search-masks-lts.Need-element-copy-out-if3 search-masks-told (search-masks-at t) search-masks.Post
-  search-masks-element-copy-out-if3 c = omega arith
+  search-masks-element-copy-out-if2 : search-masks-lts.Need-element-copy-out-if2 search-masks-told (search-masks-at t) search-masks.Post Inv-loop μ-loop
+  search-masks-element-copy-out-if2 c = omega arith
 
-  search-masks-cast-put : search-masks-lts.Need-cast-put search-masks-told (search-masks-at t) search-masks.Post
+  search-masks-cast-put : search-masks-lts.Need-cast-put search-masks-told (search-masks-at t) search-masks.Post Inv-loop μ-loop
   search-masks-cast-put c = omega (arith, low (c .before .before .before .before))
 
-  search-masks-put-requires : search-masks-lts.Need-put-requires search-masks-told (search-masks-at t) search-masks.Post
+  search-masks-put-requires : search-masks-lts.Need-put-requires search-masks-told (search-masks-at t) search-masks.Post Inv-loop μ-loop
   search-masks-put-requires c κs =
-      let s = begun (c .before .before .before .before) in
-      omega (arith, s .pre .1 .0 .few, s .pre .1 .1 .1)
+      let l = at (c .before .before .before .before) .loop in
+      omega (arith, l .inv .ready .few, l .inv .place)
 
-  search-masks-add-next : search-masks-lts.Need-add-next search-masks-told (search-masks-at t) search-masks.Post
+  search-masks-add-next : search-masks-lts.Need-add-next search-masks-told (search-masks-at t) search-masks.Post Inv-loop μ-loop
   search-masks-add-next c =
-      let s = begun (c .before .before .before .before .before .before) in
-      omega (arith, s .pre .1 .0 .within, s .pre .1 .0 .masks)
+      let l = at (c .before .before .before .before .before .before) .loop in
+      omega (arith, l .inv .ready .within, l .inv .ready .masks)
 
-  search-masks-add-search-place : search-masks-lts.Need-add-search-place search-masks-told (search-masks-at t) search-masks.Post
+  search-masks-add-search-place : search-masks-lts.Need-add-search-place search-masks-told (search-masks-at t) search-masks.Post Inv-loop μ-loop
   search-masks-add-search-place c =
-      let join = c .before .before .before in
-      let over = join .before .before .before .before .before .before in
-      let s = begun over in
-      omega (arith, s .pre .1 .0 .few, s .pre .1 .1 .1)
+      let l = at (c .before .before .before .before .before .before .before .before .before) .loop in
+      omega (arith, l .inv .ready .few, l .inv .place)
 
-  search-masks-sub-search-place : search-masks-lts.Need-sub-search-place search-masks-told (search-masks-at t) search-masks.Post
-  search-masks-sub-search-place c =
-      let join = c .before .before .before in
-      let over = join .before .before .before .before .before .before in
-      omega (arith, afford over)
+  search-masks-sub-search-place : search-masks-lts.Need-sub-search-place search-masks-told (search-masks-at t) search-masks.Post Inv-loop μ-loop
+  search-masks-sub-search-place c = afford (c .before .before .before .before .before .before .before .before .before)
 
-  search-masks-search-place-requires : search-masks-lts.Need-search-place-requires search-masks-told (search-masks-at t) search-masks.Post
+  search-masks-search-place-requires : search-masks-lts.Need-search-place-requires search-masks-told (search-masks-at t) search-masks.Post Inv-loop μ-loop
   search-masks-search-place-requires c κs =
       let join = c .before .before .before in
       let over = join .before .before .before .before .before .before in
       let s = begun over in
       let a = s .args in
-      let which : ((a .m < a .used) × (join .if4 .next ≡ a .used)) ⊎ ((a .m ≡ a .used) × (join .if4 .next ≡ a .used + 1))
-      = ⊎-elim (λ w. inl (w .0 .taken, w .1)) (λ w. inr (let e : a .m ≡ a .used = omega (arith, w .0 .left, s .pre .1 .1 .1, some over) in e, w .1)) (join .if4 .came) in
-      let next = ready-next (s .pre .1 .0) (a .m) (adds over) (join .if4 .next) (s .pre .1 .1 .1 .0) (s .pre .1 .1 .0 .small (a .m) (low over)) which (is-mask over) (afford over) in (
-        omega (arith, s .pre .0, s .pre .1 .1 .1),
-        subst⁻¹ (λ (l : List ℕ). Ready (a .starts .now) (a .list .now) l (a .numbers .now) (a .p + 1) (a .cost + adds over) (join .if4 .next) (a .left - 1)) (join .before .put .ensures) next,
+      let l = at over .loop in
+      let ready = l .inv .ready in
+      let which : ((l .mask < a .used) × (join .if3 .next ≡ a .used)) ⊎ ((l .mask ≡ a .used) × (join .if3 .next ≡ a .used + 1))
+      = ⊎-elim (λ w. inl (w .0 .taken, w .1)) (λ w. inr (let e : l .mask ≡ a .used = omega (arith, w .0 .left, l .inv .tried, some over) in e, w .1)) (join .if3 .came) in
+      let next = ready-next ready (l .mask) (adds over) (join .if3 .next) (l .inv .place) (l .inv .adds .small (l .mask) (low over)) which (is-mask over) (afford over) in (
+        omega (arith, s .pre .0, l .inv .place, l .inv .size),
+        (
+          subst⁻¹ (λ (x : List ℕ). Ready (a .starts .now) (a .list .now) x (l .numbers) (a .p + 1) (a .cost + adds over) (join .if3 .next) (l .rest - 1)) (join .before .put .ensures) next,
+          subst⁻¹ (Weights (a .table .now)) (l .inv .weight) (s .pre .1 .1 .1 .1),
+        ),
       )
 
-  search-masks-sub-rest : search-masks-lts.Need-sub-rest search-masks-told (search-masks-at t) search-masks.Post
+  search-masks-sub-rest : search-masks-lts.Need-sub-rest search-masks-told (search-masks-at t) search-masks.Post Inv-loop μ-loop
   search-masks-sub-rest c = omega (arith, afford (c .before .before .before))
 
-  search-masks-add-search-masks : search-masks-lts.Need-add-search-masks search-masks-told (search-masks-at t) search-masks.Post
-  search-masks-add-search-masks c = omega (arith, low (tried (c .before .before .before)))
+  search-masks-add-mask : search-masks-lts.Need-add-mask search-masks-told (search-masks-at t) search-masks.Post Inv-loop μ-loop
+  search-masks-add-mask c = omega (arith, low (tried c))
 
-  search-masks-sub-search-masks : search-masks-lts.Need-sub-search-masks search-masks-told (search-masks-at t) search-masks.Post
-  search-masks-sub-search-masks c = omega (arith, some (tried (c .before .before .before)))
+  search-masks-sub-untried : search-masks-lts.Need-sub-untried search-masks-told (search-masks-at t) search-masks.Post Inv-loop μ-loop
+  search-masks-sub-untried c = some (tried c)
 
-  search-masks-search-masks-requires : search-masks-lts.Need-search-masks-requires search-masks-told (search-masks-at t) search-masks.Post
-  search-masks-search-masks-requires c κs =
-      let join = c .before .before .before in
-      let s = begun (tried join) in
-      let kept = went join .kept in
-      let size = kept .constants 2 (omega arith) in
-      let masks = kept .constants 3 (omega arith) in (
-        omega (arith, s .pre .0, size, some (tried join)),
-        (ready-same (s .pre .1 .0) kept, (row-same (s .pre .1 .1 .0) kept, (omega (arith, s .pre .1 .1 .1), omega (arith, s .pre .1 .1 .1, some (tried join))))),
-      )
+  search-masks-loop-less : search-masks-lts.Need-loop-less search-masks-told (search-masks-at t) search-masks.Post Inv-loop μ-loop
+  search-masks-loop-less c = omega (arith, some (tried c))
 
-  search-masks-returns-3 : search-masks-lts.Need-returns-3 search-masks-told (search-masks-at t) search-masks.Post
-  search-masks-returns-3 c = went (c .before .before .before .before) .on (c .search-masks .ensures)
+  search-masks-loop-again : search-masks-lts.Need-loop-again search-masks-told (search-masks-at t) search-masks.Post Inv-loop μ-loop
+  search-masks-loop-again c = masks-next (some (tried c)) (at (tried c) .loop .inv) (went c)
+
+  search-masks-returns-2 : search-masks-lts.Need-returns-2 search-masks-told (search-masks-at t) search-masks.Post Inv-loop μ-loop
+  search-masks-returns-2 c =
+      let l = c .before .loop in
+      let a = c .before .before .args in
+      l .inv .on
+      (masked-none (a .starts .now) (a .list .now) (l .partial) (l .incumbent) (l .numbers) (a .p) (a .cost) (a .used) (l .rest) (l .mask) (l .untried) (l .inv .ready) (omega (arith, c .loop-test .left)))
 
   -- ---- A place
 
@@ -243,13 +252,13 @@ module _ (t : ℕ) where
   -- there is a place, and so many masks are tried at it
   module _ (c : Joined) where
     abbrev entered : search-place-lts.Else1 search-place-told (search-place-at t) search-place.Post
-    entered = c .before .before .before .before .before
+    entered = c .before .before .before .before
 
     abbrev given : search-place-lts.Start search-place-told (search-place-at t) search-place.Post
     given = entered .before .before
 
     all-tried : c .if2 .more ≡ triedIn (given .args .numbers .now) (given .args .used)
-    all-tried = ⊎-elim (λ w. omega (arith, w .0 .taken, w .1)) (λ w. omega (arith, w .0 .left, w .1, given .pre .1 .within)) (c .if2 .came)
+    all-tried = ⊎-elim (λ w. omega (arith, w .0 .taken, w .1)) (λ w. omega (arith, w .0 .left, w .1, given .pre .1 .0 .within)) (c .if2 .came)
 
   search-place-element-copy-out-if1 : search-place-lts.Need-element-copy-out-if1 search-place-told (search-place-at t) search-place.Post
   search-place-element-copy-out-if1 c = omega arith
@@ -266,20 +275,17 @@ module _ (t : ℕ) where
       let past = held .before .before .before in
       let s = past .before .before in
       let a = s .args in
-      let last = placed-last (a .starts .now) (a .list .now) (a .partial .now) (a .incumbent .now) (a .numbers .now) (a .p) (a .cost) (a .used) (a .left) (s .pre .1) (past .if1 .taken) in
+      let last = placed-last (a .starts .now) (a .list .now) (a .partial .now) (a .incumbent .now) (a .numbers .now) (a .p) (a .cost) (a .used) (a .left) (s .pre .1 .0) (past .if1 .taken) in
       subst⁻¹ (λ (ns : List ℕ). Placed (a .starts .now) (a .list .now) (a .partial .now) (a .partial .now) (a .incumbent .now) (held .hold .last .1 .0) (a .numbers .now) ns (a .p) (a .cost) (a .left) (a .left)) (c .store .ensures)
       (subst⁻¹ (λ (l : List ℕ). Placed (a .starts .now) (a .list .now) (a .partial .now) (a .partial .now) (a .incumbent .now) l (a .numbers .now) (set (a .numbers .now) 0 (a .cost)) (a .p) (a .cost) (a .left) (a .left)) (held .hold .ensures) last)
 
-  search-place-element-copy-out-added-row : search-place-lts.Need-element-copy-out-added-row search-place-told (search-place-at t) search-place.Post
-  search-place-element-copy-out-added-row c = omega arith
-
   search-place-added-row-requires : search-place-lts.Need-added-row-requires search-place-told (search-place-at t) search-place.Post
   search-place-added-row-requires c κs =
-      let here = c .before .before in
+      let here = c .before in
       let s = here .before .before in
-      let ready = s .pre .1 in (
-        (omega (arith, here .if1 .left, ready .few), ready .weight, omega (arith, ready .whole, ready .at, ready .few)),
-        (ready .lists (s .args .p) (here .if1 .left), ready-masks ready),
+      let ready = s .pre .1 .0 in (
+        (omega (arith, here .if1 .left, ready .few), omega (arith, ready .whole, ready .at, ready .few)),
+        (weights-own (s .pre .1 .1), (ready .lists (s .args .p) (here .if1 .left), ready-masks ready)),
       )
 
   search-place-element-copy-out-masks : search-place-lts.Need-element-copy-out-masks search-place-told (search-place-at t) search-place.Post
@@ -287,8 +293,8 @@ module _ (t : ℕ) where
 
   search-place-add-more : search-place-lts.Need-add-more search-place-told (search-place-at t) search-place.Post
   search-place-add-more c =
-      let s = c .before .before .before .before .before .before .before in
-      omega (arith, s .pre .1 .within, s .pre .1 .masks)
+      let s = c .before .before .before .before .before .before in
+      omega (arith, s .pre .1 .0 .within, s .pre .1 .0 .masks)
 
   search-place-search-masks-requires : search-place-lts.Need-search-masks-requires search-place-told (search-place-at t) search-place.Post
   search-place-search-masks-requires c κs =
@@ -297,9 +303,9 @@ module _ (t : ℕ) where
       let a = s .args in
       let told = join .before .before .added-row in
       let row : RowOf (a .starts .now) (a .list .now) (a .partial .now) (a .numbers .now) (a .p) (told .result)
-      = record { adds = told .ensures; small = λ m h. omega (arith, told .ensures m h, added-small (s .pre .1) (entered join .if1 .left) m) } in (
-        omega (arith, s .pre .0, all-tried join, s .pre .1 .masks),
-        (s .pre .1, (row, (entered join .if1 .left, omega (arith, all-tried join)))),
+      = row-of (s .pre .1 .1) (told .ensures) (λ m h. added-small (s .pre .1 .0) (entered join .if1 .left) m) in (
+        omega (arith, s .pre .0, all-tried join, s .pre .1 .0 .masks),
+        (s .pre .1 .0, (row, ((entered join .if1 .left, omega (arith, all-tried join)), s .pre .1 .1))),
       )
 
   search-place-returns-2 : search-place-lts.Need-returns-2 search-place-told (search-place-at t) search-place.Post
@@ -307,19 +313,22 @@ module _ (t : ℕ) where
       let join = c .before .before .before .before .before in
       let s = given join in
       let a = s .args in
-      placed-masks (a .starts .now) (a .list .now) (a .partial .now) (a .incumbent .now) (a .numbers .now) (a .p) (a .cost) (a .used) (a .left) (s .pre .1) (join .if2 .more) (entered join .if1 .left) (all-tried join) (c .search-masks .ensures)
+      placed-masks (a .starts .now) (a .list .now) (a .partial .now) (a .incumbent .now) (a .numbers .now) (a .p) (a .cost) (a .used) (a .left) (s .pre .1 .0) (join .if2 .more) (entered join .if1 .left) (all-tried join) (c .search-masks .ensures)
 
 pub +search-masks+search-place-spec : {M : Type 1} → statement M
 +search-masks+search-place-spec = close μ-search-masks μ-search-place (λ t. search-masks-lts.spec (search-masks-told t)
     (search-masks-at t)
     search-masks.Post
-    (search-masks-returns t)
+    Inv-loop
+    μ-loop
+    (search-masks-loop-holds t)
     (search-masks-store-requires t)
-    (search-masks-returns-2 t)
+    (search-masks-returns t)
     (search-masks-mul-total t)
     (search-masks-element-copy-out-total t)
+    (search-masks-cast-total t)
     (search-masks-add-total t)
-    (search-masks-element-copy-out-if3 t)
+    (search-masks-element-copy-out-if2 t)
     (search-masks-cast-put t)
     (search-masks-put-requires t)
     (search-masks-add-next t)
@@ -327,10 +336,11 @@ pub +search-masks+search-place-spec : {M : Type 1} → statement M
     (search-masks-sub-search-place t)
     (search-masks-search-place-requires t)
     (search-masks-sub-rest t)
-    (search-masks-add-search-masks t)
-    (search-masks-sub-search-masks t)
-    (search-masks-search-masks-requires t)
-    (search-masks-returns-3 t))
+    (search-masks-add-mask t)
+    (search-masks-sub-untried t)
+    (search-masks-loop-less t)
+    (search-masks-loop-again t)
+    (search-masks-returns-2 t))
     λ t. search-place-lts.spec (search-place-told t)
     (search-place-at t)
     search-place.Post
@@ -338,7 +348,6 @@ pub +search-masks+search-place-spec : {M : Type 1} → statement M
     (search-place-hold-requires t)
     (search-place-store-requires t)
     (search-place-returns t)
-    (search-place-element-copy-out-added-row t)
     (search-place-added-row-requires t)
     (search-place-element-copy-out-masks t)
     (search-place-add-more t)

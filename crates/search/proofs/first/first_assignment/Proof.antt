@@ -2,20 +2,21 @@
 use native.Mathlib.Omega.{arith}
 use mathlib.Core.List.{List}
 use mathlib.Core.Path.{subst⁻¹}
-use Prim.Native.Nat.{ℕ, _+_, _-_, _<_}
+use Prim.Native.Nat.{ℕ, _+_, _-_, _≤_, _<_}
 use lib.ListN.{getD}
+use Rattle.search.specs.Weights.{weightOf}
 use Rattle.search.proofs.Firsts.{cheapest-low, Filled, filled-none, filled-small, filled-next, filled-all}
 use Rattle.search.proofs.first.first_assignment.Statement.{statement}
 use Rattle.search.proofs.first.first_assignment.Tie as tie
 
 abbrev Inv-loop : tie.InvT-loop
-Inv-loop starts list partial₀ size masks weight cost₀ k₀ partial cost k = Filled masks weight starts list size partial cost k
+Inv-loop starts list table partial₀ size masks cost₀ k₀ partial cost k = Filled masks (weightOf table) starts list size partial cost k
 
 abbrev μ-loop : tie.MeasureT-loop
-μ-loop starts list partial₀ size masks weight cost₀ k₀ partial cost k = size - k
+μ-loop starts list table partial₀ size masks cost₀ k₀ partial cost k = size - k
 
 loop-holds : tie.Need-loop-holds Inv-loop μ-loop
-loop-holds c = filled-none (c .args .masks) (c .args .weight) (c .args .starts .now) (c .args .list .now) (c .args .size) (c .args .partial .now) (c .pre .0 .4)
+loop-holds c = filled-none (c .args .masks) (weightOf (c .args .table .now)) (c .args .starts .now) (c .args .list .now) (c .args .size) (c .args .partial .now) (c .pre .0 .3)
 
 -- where a mask was picked for a place
 module _ (picked : tie.After-cheapest-mask Inv-loop μ-loop) where
@@ -36,8 +37,8 @@ added-row-requires c κs =
     let turn = c .before in
     let loop = turn .before .loop in
     let start = turn .before .before in (
-      (omega (arith, turn .loop-test .taken, start .pre .0 .0), start .pre .0 .3, omega (arith, loop .inv .whole, turn .loop-test .taken, start .pre .0 .0)),
-      (start .pre .1 (loop .k) (turn .loop-test .taken), loop .inv .low),
+      (omega (arith, turn .loop-test .taken, start .pre .0 .0), omega (arith, loop .inv .whole, turn .loop-test .taken, start .pre .0 .0)),
+      (start .pre .1 .0, (start .pre .1 .1 (loop .k) (turn .loop-test .taken), loop .inv .low)),
     )
 
 cheapest-mask-requires : tie.Need-cheapest-mask-requires Inv-loop μ-loop
@@ -57,17 +58,29 @@ mul-cost c = omega (arith, low (c .before .before))
 array-read-cost : tie.Need-array-read-cost Inv-loop μ-loop
 array-read-cost c = low (c .before .before)
 
+-- what the mask adds
+module _ (stored : tie.After-put Inv-loop μ-loop) where
+  abbrev chosen : tie.After-cheapest-mask Inv-loop μ-loop
+  chosen = stored .before .before
+
+  cheap : getD (chosen .before .before .added-row .result) (chosen .cheapest-mask .result) 0 ≤ 131715584
+  cheap =
+      let loop = turn chosen .before .loop in
+      let a = asked chosen .args in
+      let pre = asked chosen .pre in
+      let m = chosen .cheapest-mask .result in
+      let here = turn chosen .loop-test .taken in
+      omega (
+        arith,
+        chosen .before .before .added-row .ensures m (low chosen),
+        filled-small (a .masks) (weightOf (a .table .now)) (a .starts .now) (a .list .now) (a .size) (loop .inv) m (pre .0 .0) (pre .1 .0 .light) here (pre .1 .1 (loop .k) here),
+      )
+
+cast-cost : tie.Need-cast-cost Inv-loop μ-loop
+cast-cost c = omega (arith, cheap c)
+
 add-cost : tie.Need-add-cost Inv-loop μ-loop
-add-cost c =
-    let picked = c .before .before in
-    let loop = turn picked .before .loop in
-    let a = asked picked .args in
-    let pre = asked picked .pre in
-    let m = picked .cheapest-mask .result in
-    let here = turn picked .loop-test .taken in
-    let adds = picked .before .before .added-row .ensures m (low picked) in
-    let most = filled-small (a .masks) (a .weight) (a .starts .now) (a .list .now) (a .size) (loop .inv) m (pre .0 .0) (pre .0 .3) here (pre .1 (loop .k) here) in
-    omega (arith, loop .inv .cheap, small picked)
+add-cost c = omega (arith, cheap c, turn (chosen c) .before .loop .inv .cheap, small (chosen c))
 
 add-k : tie.Need-add-k Inv-loop μ-loop
 add-k c = omega (arith, small (c .before .before))
@@ -84,15 +97,15 @@ loop-again c =
     let row = picked .before .before .added-row in
     let m = picked .cheapest-mask .result in
     let here = turn picked .loop-test .taken in
-    subst⁻¹ (λ (l : List ℕ). Filled (a .masks) (a .weight) (a .starts .now) (a .list .now) (a .size) l (loop .cost + getD (row .result) m 0) (loop .k + 1)) (c .put .ensures)
-    (filled-next (a .masks) (a .weight) (a .starts .now) (a .list .now) (a .size) (row .result) m (pre .0 .0) (pre .0 .1) (pre .0 .2) (pre .0 .3) here (pre .1 (loop .k) here)
+    subst⁻¹ (λ (l : List ℕ). Filled (a .masks) (weightOf (a .table .now)) (a .starts .now) (a .list .now) (a .size) l (loop .cost + getD (row .result) m 0) (loop .k + 1)) (c .put .ensures)
+    (filled-next (a .masks) (weightOf (a .table .now)) (a .starts .now) (a .list .now) (a .size) (row .result) m (pre .0 .0) (pre .0 .1) (pre .0 .2) (pre .1 .0 .light) here (pre .1 .1 (loop .k) here)
     (row .ensures) (picked .cheapest-mask .ensures) (loop .inv))
 
 returns : tie.Need-returns Inv-loop μ-loop
 returns c =
     let start = c .before .before in
     let a = start .args in
-    filled-all (a .masks) (a .weight) (a .starts .now) (a .list .now) (a .size) (c .loop-test .left) (c .before .loop .inv)
+    filled-all (a .masks) (weightOf (a .table .now)) (a .starts .now) (a .list .now) (a .size) (c .loop-test .left) (c .before .loop .inv)
 
 pub first-assignment-spec : {M : Type 1} → statement M
 first-assignment-spec =
@@ -107,6 +120,7 @@ first-assignment-spec =
     put-requires
     mul-cost
     array-read-cost
+    cast-cost
     add-cost
     add-k
     loop-less

@@ -5,6 +5,7 @@ use mathlib.Core.Path.{_≡_, _∙_}
 use Prim.Native.Nat.{ℕ, _+_, _-_, _*_, _≤_, _<_}
 use lib.ListN.{getD}
 use Rattle.places.specs.Local.{onMask, offMask, conflictsAt, stitchesAt, endAt}
+use Rattle.search.specs.Weights.{weightOf}
 use Rattle.search.proofs.Rows.{on-off, row-made, eight, all-small}
 use Rattle.search.proofs.row.added_row.Statement.{statement}
 use Rattle.search.proofs.row.added_row.Tie as tie
@@ -54,15 +55,21 @@ cast-to c = search needs
 sub-stitches : tie.Need-sub-stitches
 sub-stitches c = search needs
 
+cast-stitches : tie.Need-cast-stitches
+cast-stitches c = omega (arith, c .before .before .before .pre .1 .1 .0 .inside)
+
 add-conflicts-requires : tie.Need-add-conflicts-requires
 add-conflicts-requires c κs =
     let start = c .before .before .before in
     let starts = start .args .starts .now in
     let k = start .args .k in
-    let lists = start .pre .1 .0 in
+    let lists = start .pre .1 .1 .0 in
     let earlier : (i : ℕ) → conflictsAt starts k ≤ i → i < stitchesAt starts k → getD (start .args .list .now) i 0 < k = λ i from to. lists .earlier i from (omega (arith, lists .stitches)) in (
-      (lists .conflicts, omega (arith, lists .stitches, lists .inside), start .pre .0 .1),
-      (λ i from to. omega (arith, earlier i from to), (λ i from to. start .pre .1 .1 _ (earlier i from to), λ m. omega (arith, all-small 8 (endAt starts k - stitchesAt starts k) m, lists .inside))),
+      (lists .conflicts, omega (arith, lists .stitches, lists .inside)),
+      (
+        start .pre .1 .0,
+        (λ i from to. omega (arith, earlier i from to), (λ i from to. start .pre .1 .1 .1 _ (earlier i from to), λ m. omega (arith, all-small 8 (endAt starts k - stitchesAt starts k) m, lists .inside))),
+      ),
     )
 
 drop-stitches-requires : tie.Need-drop-stitches-requires
@@ -70,12 +77,12 @@ drop-stitches-requires c κs =
     let start = c .before .before .before .before in
     let starts = start .args .starts .now in
     let k = start .args .k in
-    let lists = start .pre .1 .0 in
+    let lists = start .pre .1 .1 .0 in
     let earlier : (i : ℕ) → stitchesAt starts k ≤ i → i < endAt starts k → getD (start .args .list .now) i 0 < k = λ i from to. lists .earlier i (omega (arith, lists .conflicts)) to in (
       (lists .stitches, lists .inside),
       (
         λ i from to. omega (arith, earlier i from to),
-        (λ i from to. start .pre .1 .1 _ (earlier i from to), λ m l. omega (arith, c .add-conflicts .ensures m l, eight (endAt starts k - stitchesAt starts k) m l)),
+        (λ i from to. start .pre .1 .1 .1 _ (earlier i from to), λ m l. omega (arith, c .add-conflicts .ensures m l, eight (endAt starts k - stitchesAt starts k) m l)),
       ),
     )
 
@@ -87,7 +94,7 @@ returns c m l =
     let list = start .args .list .now in
     let partial = start .args .partial .now in
     let k = start .args .k in
-    let whole : getD (c .drop-stitches .result) m 0 ≡ start .args .weight * onMask list partial m (conflictsAt starts k) (stitchesAt starts k) + offMask list partial m (stitchesAt starts k) (endAt starts k)
+    let whole : getD (c .drop-stitches .result) m 0 ≡ weightOf (start .args .table .now) * onMask list partial m (conflictsAt starts k) (stitchesAt starts k) + offMask list partial m (stitchesAt starts k) (endAt starts k)
     = omega (
       arith,
       c .drop-stitches .ensures m l,
@@ -95,7 +102,7 @@ returns c m l =
       eight (endAt starts k - stitchesAt starts k) m l,
       on-off list partial m (stitchesAt starts k) (endAt starts k),
     ) in
-    whole ∙ row-made (start .args .weight) starts list partial k m (start .pre .0 .2) (start .pre .1 .0)
+    whole ∙ row-made (weightOf (start .args .table .now)) starts list partial k m (start .pre .0 .1) (start .pre .1 .1 .0)
 
 pub added-row-spec : {M : Type 1} → statement M
 added-row-spec =
@@ -116,6 +123,7 @@ added-row-spec =
     element-copy-out-to
     cast-to
     sub-stitches
+    cast-stitches
     add-conflicts-requires
     drop-stitches-requires
     returns)
