@@ -1,0 +1,567 @@
+//! The decomposition of docs/RULES.md, sections 1 to 8, by hand and for speed: what the proved program is measured against.
+//!
+//!     reference FORM [MASKS SEED PIECES BUDGET]...
+//!
+//! Each four numbers ask for a made layer and its decomposition, and one line tells what came of it. FORM is the form of the search:
+//!
+//! - `lists`: a place that is reached sums up what each mask adds there, along the list of its earlier neighbours;
+//! - `push`: every place has these sums at all times, and a mask that is tried is added to those of the later neighbours, and taken
+//!   off again afterwards.
+
+use std::env;
+use std::io::{self, BufWriter, Write};
+
+const PIECES_GREATEST: usize = 512;
+const MASKS_GREATEST: usize = 8;
+
+struct Settings {
+    masks: usize,
+    spacing: i64,
+    margin: i64,
+    weight: u32,
+    budget: u64,
+}
+
+struct Piece {
+    shape: u32,
+    x1: i64,
+    y1: i64,
+    x2: i64,
+    y2: i64,
+}
+
+// ---- edges (RULES 2)
+
+enum Edge {
+    Conflict,
+    Stitch,
+    None,
+}
+
+fn edge(settings: &Settings, a: &Piece, b: &Piece) -> Edge {
+    let ox = a.x2.min(b.x2) - a.x1.max(b.x1);
+    let oy = a.y2.min(b.y2) - a.y1.max(b.y1);
+    if a.shape != b.shape {
+        let gap_x = (-ox).max(0);
+        let gap_y = (-oy).max(0);
+        if gap_x * gap_x + gap_y * gap_y < settings.spacing * settings.spacing {
+            return Edge::Conflict;
+        }
+        return Edge::None;
+    }
+    let contact = if ox == 0 {
+        oy
+    } else if oy == 0 {
+        ox
+    } else {
+        0
+    };
+    if contact >= settings.margin {
+        Edge::Stitch
+    } else {
+        Edge::None
+    }
+}
+
+/// The neighbours of each piece, in rising order.
+struct Graph {
+    conflicts: Vec<Vec<u16>>,
+    stitches: Vec<Vec<u16>>,
+}
+
+fn graph(settings: &Settings, pieces: &[Piece]) -> Graph {
+    let mut conflicts = vec![Vec::new(); pieces.len()];
+    let mut stitches = vec![Vec::new(); pieces.len()];
+    for (j, b) in pieces.iter().enumerate() {
+        for (i, a) in pieces[..j].iter().enumerate() {
+            let lists = match edge(settings, a, b) {
+                Edge::Conflict => &mut conflicts,
+                Edge::Stitch => &mut stitches,
+                Edge::None => continue,
+            };
+            lists[i].push(j as u16);
+            lists[j].push(i as u16);
+        }
+    }
+    Graph {
+        conflicts,
+        stitches,
+    }
+}
+
+// ---- peeling (RULES 4)
+
+struct Removal {
+    piece: usize,
+    /// The stitch neighbour of a piece that went by (B).
+    stitched: Option<usize>,
+}
+
+struct Peeled {
+    core: Vec<bool>,
+    removals: Vec<Removal>,
+}
+
+/// A piece that may go still may when others are gone, so the pieces that may are kept, and only neighbours are looked at again.
+fn peel(settings: &Settings, graph: &Graph) -> Peeled {
+    let n = graph.conflicts.len();
+    let mut core = vec![true; n];
+    let mut near: Vec<usize> = graph.conflicts.iter().map(Vec::len).collect();
+    let mut stitched: Vec<usize> = graph.stitches.iter().map(Vec::len).collect();
+    let may_go = |near: usize, stitched: usize| match stitched {
+        0 => near < settings.masks,
+        1 => near == 0,
+        _ => false,
+    };
+    let mut ready: Vec<bool> = (0..n).map(|v| may_go(near[v], stitched[v])).collect();
+    let mut removals = Vec::new();
+    let mut v = 0;
+    while v < n {
+        if !ready[v] {
+            v += 1;
+            continue;
+        }
+        ready[v] = false;
+        core[v] = false;
+        let mut next = v + 1;
+        for &u in &graph.conflicts[v] {
+            near[u as usize] -= 1;
+        }
+        for &u in &graph.stitches[v] {
+            stitched[u as usize] -= 1;
+        }
+        for &u in graph.conflicts[v].iter().chain(&graph.stitches[v]) {
+            let u = u as usize;
+            if core[u] && may_go(near[u], stitched[u]) {
+                ready[u] = true;
+                next = next.min(u);
+            }
+        }
+        let neighbour = graph.stitches[v]
+            .iter()
+            .map(|&u| u as usize)
+            .find(|&u| core[u]);
+        removals.push(Removal {
+            piece: v,
+            stitched: neighbour,
+        });
+        v = next;
+    }
+    Peeled { core, removals }
+}
+
+// ---- components (RULES 5)
+
+/// The component of a piece, in rising order. Its pieces are taken out of what is left of the core.
+fn component(graph: &Graph, left: &mut [bool], piece: usize) -> Vec<usize> {
+    let mut members = vec![piece];
+    left[piece] = false;
+    let mut at = 0;
+    while at < members.len() {
+        let v = members[at];
+        at += 1;
+        for &u in graph.conflicts[v].iter().chain(&graph.stitches[v]) {
+            let u = u as usize;
+            if left[u] {
+                left[u] = false;
+                members.push(u);
+            }
+        }
+    }
+    members.sort_unstable();
+    members
+}
+
+/// For each place the places that conflict edges and stitch edges join to it, all in one list.
+struct Neighbours {
+    starts: Vec<u32>,
+    list: Vec<u16>,
+}
+
+impl Neighbours {
+    /// The neighbours on one side of each place: those for which `keep(place, neighbour)` holds.
+    fn new(graph: &Graph, members: &[usize], keep: impl Fn(usize, usize) -> bool) -> Neighbours {
+        let mut places = vec![None; graph.conflicts.len()];
+        for (p, &v) in members.iter().enumerate() {
+            places[v] = Some(p);
+        }
+        let mut starts = vec![0];
+        let mut list = Vec::new();
+        for (p, &v) in members.iter().enumerate() {
+            for edges in [&graph.conflicts[v], &graph.stitches[v]] {
+                let there = edges.iter().filter_map(|&u| places[u as usize]);
+                list.extend(there.filter(|&q| keep(p, q)).map(|q| q as u16));
+                starts.push(list.len() as u32);
+            }
+        }
+        Neighbours { starts, list }
+    }
+
+    fn size(&self) -> usize {
+        self.starts.len() / 2
+    }
+
+    #[inline]
+    fn of(&self, p: usize) -> (&[u16], &[u16]) {
+        let from = self.starts[2 * p] as usize;
+        let middle = self.starts[2 * p + 1] as usize;
+        let to = self.starts[2 * p + 2] as usize;
+        (&self.list[from..middle], &self.list[middle..to])
+    }
+}
+
+// ---- first assignment and search (RULES 6)
+
+type Masks = [u8; PIECES_GREATEST];
+type Row = [u32; MASKS_GREATEST];
+
+/// What each mask adds at a place, where the earlier places have their masks. A stitch edge costs one but on the neighbour's mask.
+#[inline]
+fn added_row(earlier: &Neighbours, weight: u32, masks: &Masks, p: usize) -> Row {
+    let (conflicts, stitches) = earlier.of(p);
+    let mut row = [stitches.len() as u32; MASKS_GREATEST];
+    for &q in conflicts {
+        row[masks[q as usize % PIECES_GREATEST] as usize % MASKS_GREATEST] += weight;
+    }
+    for &q in stitches {
+        row[masks[q as usize % PIECES_GREATEST] as usize % MASKS_GREATEST] -= 1;
+    }
+    row
+}
+
+fn first_assignment(settings: &Settings, earlier: &Neighbours) -> (Masks, u32) {
+    let mut masks = [0; PIECES_GREATEST];
+    let mut cost = 0;
+    for p in 0..earlier.size() {
+        let row = added_row(earlier, settings.weight, &masks, p);
+        let mask = (0..settings.masks).min_by_key(|&m| row[m]).unwrap_or(0);
+        masks[p] = mask as u8;
+        cost += row[mask];
+    }
+    (masks, cost)
+}
+
+struct Outcome {
+    incumbent: Masks,
+    left: u64,
+    stopped: bool,
+}
+
+struct ListState {
+    partial: Masks,
+    incumbent: Masks,
+    cost: u32,
+    stopped: bool,
+}
+
+struct ListSearch<'a> {
+    earlier: &'a Neighbours,
+    size: usize,
+    masks: usize,
+    weight: u32,
+}
+
+impl ListSearch<'_> {
+    /// Searches the places from p on, and answers how many steps are left then.
+    fn place(&self, state: &mut ListState, p: usize, cost: u32, used: usize, mut left: u64) -> u64 {
+        if p == self.size {
+            state.incumbent = state.partial;
+            state.cost = cost;
+            return left;
+        }
+        let row = added_row(self.earlier, self.weight, &state.partial, p);
+        for m in 0..self.masks.min(used + 1) {
+            if left == 0 {
+                state.stopped = true;
+                return 0;
+            }
+            left -= 1;
+            let total = cost + row[m];
+            if total < state.cost {
+                state.partial[p] = m as u8;
+                left = self.place(state, p + 1, total, used.max(m + 1), left);
+            }
+        }
+        left
+    }
+}
+
+fn search_lists(
+    settings: &Settings,
+    earlier: &Neighbours,
+    first: Masks,
+    cost: u32,
+    left: u64,
+) -> Outcome {
+    let search = ListSearch {
+        earlier,
+        size: earlier.size(),
+        masks: settings.masks.min(MASKS_GREATEST),
+        weight: settings.weight,
+    };
+    let mut state = ListState {
+        partial: [0; PIECES_GREATEST],
+        incumbent: first,
+        cost,
+        stopped: false,
+    };
+    let left = search.place(&mut state, 0, 0, 0, left);
+    Outcome {
+        incumbent: state.incumbent,
+        left,
+        stopped: state.stopped,
+    }
+}
+
+struct PushSearch<'a> {
+    later: &'a Neighbours,
+    size: usize,
+    masks: usize,
+    weight: u32,
+    /// What each mask adds at each place.
+    rows: [Row; PIECES_GREATEST],
+    partial: Masks,
+    incumbent: Masks,
+    cost: u32,
+    left: u64,
+    stopped: bool,
+}
+
+impl PushSearch<'_> {
+    fn push(&mut self, p: usize, m: usize) {
+        let (conflicts, stitches) = self.later.of(p);
+        let weight = self.weight;
+        for &q in conflicts {
+            self.rows[q as usize % PIECES_GREATEST][m] += weight;
+        }
+        for &q in stitches {
+            self.rows[q as usize % PIECES_GREATEST][m] -= 1;
+        }
+    }
+
+    fn take_back(&mut self, p: usize, m: usize) {
+        let (conflicts, stitches) = self.later.of(p);
+        let weight = self.weight;
+        for &q in conflicts {
+            self.rows[q as usize % PIECES_GREATEST][m] -= weight;
+        }
+        for &q in stitches {
+            self.rows[q as usize % PIECES_GREATEST][m] += 1;
+        }
+    }
+
+    /// Searches the places from p on.
+    fn place(&mut self, p: usize, cost: u32, used: usize) {
+        if p == self.size {
+            self.incumbent = self.partial;
+            self.cost = cost;
+            return;
+        }
+        for m in 0..self.masks.min(used + 1) {
+            if self.left == 0 {
+                self.stopped = true;
+                return;
+            }
+            self.left -= 1;
+            let total = cost + self.rows[p][m];
+            if total < self.cost {
+                self.partial[p] = m as u8;
+                self.push(p, m);
+                self.place(p + 1, total, used.max(m + 1));
+                self.take_back(p, m);
+            }
+        }
+    }
+}
+
+fn search_push(
+    settings: &Settings,
+    earlier: &Neighbours,
+    later: &Neighbours,
+    first: Masks,
+    cost: u32,
+    left: u64,
+) -> Outcome {
+    let mut rows = [[0; MASKS_GREATEST]; PIECES_GREATEST];
+    for (p, row) in rows.iter_mut().enumerate().take(earlier.size()) {
+        *row = [earlier.of(p).1.len() as u32; MASKS_GREATEST];
+    }
+    let mut search = PushSearch {
+        later,
+        size: later.size(),
+        masks: settings.masks.min(MASKS_GREATEST),
+        weight: settings.weight,
+        rows,
+        partial: [0; PIECES_GREATEST],
+        incumbent: first,
+        cost,
+        left,
+        stopped: false,
+    };
+    search.place(0, 0, 0);
+    Outcome {
+        incumbent: search.incumbent,
+        left: search.left,
+        stopped: search.stopped,
+    }
+}
+
+#[derive(Clone, Copy)]
+enum Form {
+    Lists,
+    Push,
+}
+
+fn search_component(
+    form: Form,
+    settings: &Settings,
+    graph: &Graph,
+    members: &[usize],
+    left: u64,
+) -> Outcome {
+    let earlier = Neighbours::new(graph, members, |p, q| q < p);
+    let (first, cost) = first_assignment(settings, &earlier);
+    match form {
+        Form::Lists => search_lists(settings, &earlier, first, cost, left),
+        Form::Push => {
+            let later = Neighbours::new(graph, members, |p, q| p < q);
+            search_push(settings, &earlier, &later, first, cost, left)
+        }
+    }
+}
+
+// ---- putting back (RULES 7), score (RULES 3) and the whole run (RULES 8)
+
+fn put_back(graph: &Graph, peeled: &Peeled, masks: &mut [u8]) {
+    let mut there = peeled.core.clone();
+    for removal in peeled.removals.iter().rev() {
+        let v = removal.piece;
+        masks[v] = match removal.stitched {
+            Some(u) => masks[u],
+            None => {
+                let back = graph.conflicts[v]
+                    .iter()
+                    .map(|&u| u as usize)
+                    .filter(|&u| there[u]);
+                let used = back.fold(0u32, |used, u| used | 1 << masks[u]);
+                used.trailing_ones() as u8
+            }
+        };
+        there[v] = true;
+    }
+}
+
+struct Run {
+    masks: Vec<u8>,
+    conflicts: u32,
+    stitches: u32,
+    cost: u32,
+    steps: u64,
+    best: bool,
+}
+
+fn decompose(form: Form, settings: &Settings, pieces: &[Piece]) -> Run {
+    let graph = graph(settings, pieces);
+    let peeled = peel(settings, &graph);
+    let mut masks = vec![0; pieces.len()];
+    let mut core_left = peeled.core.clone();
+    let mut left = settings.budget;
+    let mut stopped = false;
+    for v in 0..pieces.len() {
+        if core_left[v] {
+            let members = component(&graph, &mut core_left, v);
+            let outcome = search_component(form, settings, &graph, &members, left);
+            left = outcome.left;
+            stopped |= outcome.stopped;
+            for (&v, &mask) in members.iter().zip(&outcome.incumbent) {
+                masks[v] = mask;
+            }
+        }
+    }
+    put_back(&graph, &peeled, &mut masks);
+    let count = |lists: &[Vec<u16>], counts: fn(u8, u8) -> bool| {
+        let ends = lists
+            .iter()
+            .enumerate()
+            .flat_map(|(j, list)| list.iter().map(move |&i| (i as usize, j)));
+        ends.filter(|&(i, j)| i < j && counts(masks[i], masks[j]))
+            .count() as u32
+    };
+    let conflicts = count(&graph.conflicts, |a, b| a == b);
+    let stitches = count(&graph.stitches, |a, b| a != b);
+    Run {
+        conflicts,
+        stitches,
+        cost: settings.weight * conflicts + stitches,
+        steps: settings.budget - left,
+        best: !stopped,
+        masks,
+    }
+}
+
+// ---- made layers
+
+fn made_layer(seed: u32, count: usize) -> Vec<Piece> {
+    let mut state = seed;
+    let mut draw = || {
+        state = state.wrapping_mul(1_664_525).wrapping_add(1_013_904_223);
+        40 * i64::from(state / 65_536 % 32)
+    };
+    (0..count)
+        .map(|i| {
+            let x1 = draw();
+            let y1 = draw();
+            Piece {
+                shape: i as u32,
+                x1,
+                y1,
+                x2: x1 + 20,
+                y2: y1 + 20,
+            }
+        })
+        .collect()
+}
+
+fn usage() -> ! {
+    eprintln!("usage: reference lists|push [MASKS SEED PIECES BUDGET]...");
+    std::process::exit(2);
+}
+
+fn main() -> io::Result<()> {
+    let mut words = env::args().skip(1);
+    let form = match words.next().as_deref() {
+        Some("lists") => Form::Lists,
+        Some("push") => Form::Push,
+        _ => usage(),
+    };
+    let numbers: Vec<u32> = words
+        .map(|word| word.parse().unwrap_or_else(|_| usage()))
+        .collect();
+    let mut out = BufWriter::new(io::stdout());
+    for four in numbers.chunks(4) {
+        let (masks, seed, count, budget) = match *four {
+            [masks @ 2..=8, seed, count @ 0..=512, budget] => {
+                (masks as usize, seed, count as usize, u64::from(budget))
+            }
+            _ => usage(),
+        };
+        let settings = Settings {
+            masks,
+            spacing: 80,
+            margin: 10,
+            weight: 10,
+            budget,
+        };
+        let run = decompose(form, &settings, &made_layer(seed, count));
+        let digest = run.masks.iter().fold(0u32, |d, &mask| {
+            d.wrapping_mul(31).wrapping_add(u32::from(mask) + 1)
+        });
+        let verdict = if run.best { "best" } else { "open" };
+        writeln!(
+            out,
+            "made masks={masks} seed={seed} pieces={count} budget={budget}: conflicts={} stitches={} cost={} steps={} {verdict} digest={digest}",
+            run.conflicts, run.stitches, run.cost, run.steps
+        )?;
+    }
+    out.flush()
+}
