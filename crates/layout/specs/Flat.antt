@@ -1,5 +1,6 @@
 -- Pieces as numbers, five to a piece: shape, X1, Y1, X2, Y2. Assumes nothing: these are definitions.
 use mathlib.Core.List.{List, map}
+use mathlib.Core.Path.{_≡_}
 use Prim.Native.Nat.{ℕ, _+_, _*_}
 use lib.ListN.{getD}
 use Rattle.rules.specs.declared.layer.Piece.{Piece}
@@ -18,3 +19,8 @@ pieceOf flat i = record {
 -- the first n pieces
 unfoldable pub piecesOf : List ℕ → ℕ → List Piece
 piecesOf flat n = map (pieceOf flat) (upTo n)
+
+-- the numbers before and after a piece was stored as the one with number i: every other piece stays
+pub record Stored (i : ℕ) (p : Piece) (before after : List ℕ) : Type 0 where
+  pub stored : pieceOf after i ≡ p
+  pub others : (j : ℕ) → (j ≡ i → ⊥) → pieceOf after j ≡ pieceOf before j

@@ -1,7 +1,8 @@
-// Pieces read from an array of numbers, five to a piece.
+// Pieces as an array of numbers, five to a piece: read, stored, and taken from records.
 ghost use mathlib.Core.Path.{_≡_};
-ghost use Prim.Native.Nat.{_<_};
-ghost use Rattle.layout.specs.Flat.{pieceOf};
+ghost use Prim.Native.Nat.{_<_, _≤_};
+ghost use lib.ListN.{take};
+ghost use Rattle.layout.specs.Flat.{pieceOf, piecesOf, Stored};
 use rules::Piece;
 
 // The piece with number i.
@@ -16,5 +17,31 @@ pub fn piece_at(flat: &[u32; 2560], i: usize) -> Piece
         y1: flat[k + 2],
         x2: flat[k + 3],
         y2: flat[k + 4],
+    }
+}
+
+// Stores a piece as the one with number i.
+pub fn put(flat: &mut [u32; 2560], i: usize, piece: Piece)
+    requires { ⌜ i < 512 ⌝ }
+    ensures { λ _. ⌜ Stored i piece (now (flat .entry)) (now (flat .exit)) ⌝ }
+{
+    let numbers: &mut [u32] = flat;
+    let k = 5 * i;
+    numbers[k] = piece.shape;
+    numbers[k + 1] = piece.x1;
+    numbers[k + 2] = piece.y1;
+    numbers[k + 3] = piece.x2;
+    numbers[k + 4] = piece.y2;
+}
+
+// The numbers of the first records, for a caller that holds records by value.
+pub fn flatten(records: [Piece; 512], count: usize, flat: &mut [u32; 2560])
+    requires { ⌜ count ≤ 512 ⌝ }
+    ensures { λ _. ⌜ piecesOf (now (flat .exit)) count ≡ take count records ⌝ }
+{
+    let mut i = 0;
+    while i < count {
+        put(flat, i, records[i]);
+        i += 1;
     }
 }

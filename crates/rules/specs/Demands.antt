@@ -121,3 +121,7 @@ AgainstLarger s ps r = (larger : Settings) → Alike s larger → Valid larger p
 -- demand 3 of what a call came to: of its run, where it was not refused
 abbrev pub Demand3Of : Settings → List Piece → Outcome Run → Type 0
 Demand3Of s ps o = (r : Run) → o ≡ done r → AgainstLarger s ps r
+
+-- demand 3 of the run behind a text: of the run on the layer that the text states, where it states one
+abbrev pub Demand3OfText : List ℕ → Type 0
+Demand3OfText text = (l : Layer) → readLayer text ≡ done l → AgainstLarger (l .settings) (l .pieces) (run (l .settings) (l .pieces))
