@@ -1,5 +1,5 @@
-// Decomposes the worked cases of RULES 13, and then a made layer for every four arguments: masks, seed, pieces and budget. What it
-// writes is compared with the file stdout.
+// Decomposes a made layer for every four arguments: masks, seed, pieces and budget. What it writes is compared with the file stdout, and
+// bench/ measures it.
 ghost use Prim.Native.Nat.{_+_, _<_, _≤_};
 ghost use lib.ListN.{length};
 use libc::STDOUT_FILENO;
@@ -21,12 +21,12 @@ fn write_value(label: &[u8], n: u32) {
     io::print_decimal(STDOUT_FILENO, n as u64);
 }
 
-fn settings(masks: u32, weight: u32, budget: u32) -> Settings {
+fn settings(masks: u32, budget: u32) -> Settings {
     Settings {
         masks: masks,
         spacing: 80,
         margin: 10,
-        weight: weight,
+        weight: 10,
         budget: budget,
     }
 }
@@ -39,18 +39,6 @@ fn piece(shape: u32, x1: u32, y1: u32, x2: u32, y2: u32) -> Piece {
         x2: x2,
         y2: y2,
     }
-}
-
-// Stores a piece as the five numbers of place i.
-fn put(flat: &mut [u32; 2560], i: usize, p: Piece)
-    requires { ⌜ i < 512 ⌝ }
-{
-    let k = 5 * i;
-    flat[k] = p.shape;
-    flat[k + 1] = p.x1;
-    flat[k + 2] = p.y1;
-    flat[k + 3] = p.x2;
-    flat[k + 4] = p.y2;
 }
 
 // ---- lines
@@ -83,153 +71,6 @@ fn write_answer(answer: DecomposeAnswer) {
     }
 }
 
-// Mask i, after what goes before it.
-fn write_mask(i: usize, mask: u8) {
-    if i == 0 {
-        write(b" masks=");
-    } else {
-        write(b",");
-    }
-    io::print_decimal(STDOUT_FILENO, mask as u64);
-}
-
-fn write_masks(masks: &[u8]) {
-    let mut i = 0;
-    while i < masks.len() {
-        write_mask(i, masks[i]);
-        i += 1;
-    }
-}
-
-// A run and its line. The masks are written after a refusal too, which leaves them as they were.
-fn show_on(s: Settings, flat: &[u32; 2560], n: usize, masks: &mut [u8]) {
-    let answer = decomposer::decompose_flat(s, flat, n, masks);
-    write_answer(answer);
-    write_masks(masks);
-    write(b"\n");
-}
-
-// Every run gets a list of nines, a mask that no run gives.
-fn show(label: &[u8], s: Settings, flat: &[u32; 2560], n: usize, room: u32) {
-    write(label);
-    let mut list = [9u8; 8];
-    let there = io::count(room as isize, &list);
-    show_on(s, flat, n, &mut list[..there]);
-}
-
-// ---- the worked cases
-
-// Three squares in a row, the layer of RULES 9.
-fn row() -> [u32; 2560] {
-    let mut flat = [0u32; 2560];
-    put(&mut flat, 0, piece(0, 0, 0, 20, 20));
-    put(&mut flat, 1, piece(1, 40, 0, 60, 20));
-    put(&mut flat, 2, piece(2, 80, 0, 100, 20));
-    flat
-}
-
-fn row_cases() {
-    let flat = row();
-    show(b"row K=2 B=100: ", settings(2, 10, 100), &flat, 3, 3);
-    show(b"row K=2 B=5: ", settings(2, 10, 5), &flat, 3, 3);
-    show(b"row K=2 B=4: ", settings(2, 10, 4), &flat, 3, 3);
-    show(b"row K=3: ", settings(3, 10, 100), &flat, 3, 3);
-}
-
-// The first four pieces of three layers: a wire in two halves with a neighbour above each half.
-fn halves() -> [u32; 2560] {
-    let mut flat = [0u32; 2560];
-    put(&mut flat, 0, piece(0, 100, 0, 200, 20));
-    put(&mut flat, 1, piece(0, 200, 0, 300, 20));
-    put(&mut flat, 2, piece(1, 100, 90, 161, 110));
-    put(&mut flat, 3, piece(2, 239, 90, 300, 110));
-    flat
-}
-
-fn halves_case() {
-    let flat = halves();
-    show(b"halves: ", settings(2, 10, 100), &flat, 4, 4);
-}
-
-// A wire in two halves with a neighbour at one end.
-fn at_end_case() {
-    let mut flat = [0u32; 2560];
-    put(&mut flat, 0, piece(0, 100, 0, 200, 20));
-    put(&mut flat, 1, piece(1, 60, 0, 80, 20));
-    put(&mut flat, 2, piece(0, 200, 0, 300, 20));
-    show(b"at end: ", settings(2, 10, 100), &flat, 3, 3);
-}
-
-fn square_cases() {
-    let mut flat = [0u32; 2560];
-    put(&mut flat, 0, piece(0, 0, 0, 20, 20));
-    put(&mut flat, 1, piece(1, 40, 0, 60, 20));
-    put(&mut flat, 2, piece(2, 0, 40, 20, 60));
-    put(&mut flat, 3, piece(3, 40, 40, 60, 60));
-    show(b"square K=3: ", settings(3, 10, 100), &flat, 4, 4);
-    show(b"square K=4: ", settings(4, 10, 100), &flat, 4, 4);
-}
-
-// The halves, and three squares in a row far from them.
-fn two_parts_cases() {
-    let mut flat = halves();
-    put(&mut flat, 4, piece(3, 0, 1000, 20, 1020));
-    put(&mut flat, 5, piece(4, 40, 1000, 60, 1020));
-    put(&mut flat, 6, piece(5, 80, 1000, 100, 1020));
-    show(b"two parts B=6: ", settings(2, 10, 6), &flat, 7, 7);
-    show(b"two parts B=11: ", settings(2, 10, 11), &flat, 7, 7);
-    show(b"two parts B=14: ", settings(2, 10, 14), &flat, 7, 7);
-    show(b"two parts B=16: ", settings(2, 10, 16), &flat, 7, 7);
-}
-
-// Three pieces, each too close to both others, and a last one that only continues the second.
-fn continued_case() {
-    let mut flat = [0u32; 2560];
-    put(&mut flat, 0, piece(0, 0, 0, 20, 20));
-    put(&mut flat, 1, piece(1, 90, 0, 300, 20));
-    put(&mut flat, 2, piece(2, 45, 90, 65, 110));
-    put(&mut flat, 3, piece(1, 300, 0, 400, 20));
-    show(b"continued: ", settings(2, 10, 100), &flat, 4, 4);
-}
-
-// Two wires in two halves, one above and one below two squares that are too close.
-fn wires_cases() {
-    let mut flat = halves();
-    put(&mut flat, 4, piece(3, 100, 180, 200, 200));
-    put(&mut flat, 5, piece(3, 200, 180, 300, 200));
-    show(b"wires W=1: ", settings(2, 1, 1000), &flat, 6, 6);
-    show(b"wires W=10: ", settings(2, 10, 1000), &flat, 6, 6);
-}
-
-fn count_cases() {
-    let flat = row();
-    show(b"no pieces B=0: ", settings(2, 10, 0), &flat, 0, 0);
-    show(b"513 pieces: ", settings(2, 10, 100), &flat, 513, 2);
-    show(b"list too short: ", settings(2, 10, 100), &flat, 3, 2);
-    show(b"list too long: ", settings(2, 10, 100), &flat, 1, 2);
-    show(b"nine masks: ", settings(9, 10, 100), &flat, 2, 2);
-}
-
-fn piece_cases() {
-    let mut flat = row();
-    put(&mut flat, 1, piece(1, 40, 0, 40, 20));
-    show(b"no width: ", settings(2, 10, 100), &flat, 3, 3);
-    put(&mut flat, 1, piece(2, 70, 0, 90, 20));
-    show(b"overlap: ", settings(2, 10, 100), &flat, 3, 3);
-}
-
-fn worked_cases() {
-    row_cases();
-    halves_case();
-    at_end_case();
-    square_cases();
-    two_parts_cases();
-    continued_case();
-    wires_cases();
-    count_cases();
-    piece_cases();
-}
-
 // ---- made layers
 
 // The generator's next state.
@@ -260,7 +101,7 @@ fn made_layer(seed: u32, n: usize) -> [u32; 2560]
     while i < n {
         let x_draw = next(state);
         state = next(x_draw);
-        put(&mut flat, i, made_piece(i as u32, x_draw, state));
+        layout::put(&mut flat, i, made_piece(i as u32, x_draw, state));
         i += 1;
     }
     flat
@@ -307,7 +148,7 @@ fn show_made(masks: u32, seed: u32, pieces: u32, budget: u32) {
     let mut list = [9u8; 512];
     let there = io::count(pieces as isize, &list);
     show_layer(
-        settings(masks, 10, budget),
+        settings(masks, budget),
         seed,
         pieces as usize,
         &mut list[..there],
@@ -381,7 +222,6 @@ fn show_group(i: usize) -> bool
 }
 
 fn main() {
-    worked_cases();
     let count = os::arg_count();
     if count % 4 != 1 {
         write(b"give MASKS SEED PIECES BUDGET for each made layer\n");

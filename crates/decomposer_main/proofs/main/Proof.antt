@@ -11,9 +11,6 @@ Inv-loop count groups g₀ t5 g = g ≤ groups
 abbrev μ-loop : tie.MeasureT-loop
 μ-loop count groups g₀ t5 g = groups - g
 
-worked-cases-requires : tie.Need-worked-cases-requires Inv-loop μ-loop
-worked-cases-requires c κs = search needs
-
 arg-count-requires : tie.Need-arg-count-requires Inv-loop μ-loop
 arg-count-requires c κs = search needs
 
@@ -65,7 +62,6 @@ main-spec =
     (tie.spec
     Inv-loop
     μ-loop
-    worked-cases-requires
     arg-count-requires
     slice-aggregate-write
     write-requires

@@ -1,0 +1,58 @@
+// A layer text decomposed: the questions in their order, then the run, then its text.
+ghost use mathlib.Core.Path.{_≡_};
+ghost use Prim.Native.Nat.{_≤_};
+ghost use lib.ListN.{length, take};
+ghost use Rattle.rules.specs.Answers.{lengthOf, writeAnswer};
+ghost use Rattle.rules.specs.Calls.{decomposeText, bufferAfter};
+ghost use Rattle.rules.specs.Decomposition.{run};
+ghost use Rattle.rules.specs.Demands.{Demand3OfText};
+ghost use Rattle.rules.specs.Questions.{Valid};
+ghost use Rattle.layout.specs.Flat.{piecesOf};
+ghost use Rattle.loader.specs.Written.{Wrote};
+use rules::Piece;
+use rules::Place;
+use rules::ReadAnswer;
+use rules::Refusal;
+use rules::Settings;
+use rules::WriteAnswer;
+
+// Runs a judged layer, with a lent list for the masks, and writes the result text at the buffer's front.
+fn write_run(settings: Settings, flat: &[u32; 2560], masks: &mut [u8], buffer: &mut [u8]) -> usize
+    requires { ⌜ Valid settings (piecesOf (now flat) (length (now masks))) ⌝ }
+    requires { ⌜ 4_096 ≤ length (now buffer) ⌝ }
+    ensures { λ r. ⌜ Wrote (run settings (piecesOf (now (flat .entry)) (length (now (masks .entry))))) (now (buffer .entry)) r (now (buffer .exit)) ⌝ }
+{
+    let result = decomposer::decompose(settings, flat, masks.len(), masks);
+    writer::write_result(buffer, result, masks)
+}
+
+// The same of the first records.
+fn write_run_of(settings: Settings, records: [Piece; 512], count: usize, buffer: &mut [u8]) -> usize
+    requires { ⌜ count ≤ 512 ⌝ }
+    requires { ⌜ Valid settings (take count records) ⌝ }
+    requires { ⌜ 4_096 ≤ length (now buffer) ⌝ }
+    ensures { λ r. ⌜ Wrote (run settings (take count records)) (now (buffer .entry)) r (now (buffer .exit)) ⌝ }
+{
+    let mut flat = [0u32; 2560];
+    layout::flatten(records, count, &mut flat);
+    let mut masks = [0u8; 512];
+    write_run(settings, &flat, &mut masks[..count], buffer)
+}
+
+// The result text of the layer that a text states, or the first of the refusals 1 to 6 and the buffer as it was.
+pub fn decompose_text(text: &[u8], buffer: &mut [u8]) -> WriteAnswer
+    ensures { λ r. ⌜ writeAnswer r ≡ lengthOf (decomposeText (now (text .entry)) (now (buffer .entry))) ⌝ }
+    ensures { λ _. ⌜ now (buffer .exit) ≡ bufferAfter (decomposeText (now (text .entry)) (now (buffer .entry))) (now (buffer .entry)) ⌝ }
+    ensures { λ _. ⌜ Demand3OfText (now (text .entry)) ⌝ }
+{
+    if buffer.len() < 4_096 {
+        return WriteAnswer::Refused(Refusal::Buffer, Place::Nothing);
+    }
+    let read = text::read_layer(text);
+    let answer = read.answer;
+    if let ReadAnswer::Refused(refusal, place) = answer {
+        return WriteAnswer::Refused(refusal, place);
+    }
+    let records = read.pieces;
+    WriteAnswer::Written(write_run_of(read.settings, records, read.count, buffer))
+}

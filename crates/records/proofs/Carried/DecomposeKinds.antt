@@ -1,0 +1,28 @@
+-- Kinds of `decompose`, written by tools/carry. Assumes nothing.
+use Rattle.rules.proofs.layer.Piece as Record
+use Rattle.rules.proofs.answers.DecomposeAnswer
+use Rattle.rules.proofs.answers.DecomposeAnswer.Laws
+use Rattle.rules.proofs.layer.Settings
+use Rattle.rules.proofs.layer.Settings.Laws as Laws'
+use borrow.Fn.Kinds
+use borrow.Kind.MutSlice
+use borrow.Kind.ShrSlice
+use borrow.Kind.Value
+use borrow.Rule.Local
+use borrow.Table.Referent
+use borrow.Table.Rows
+use denote.Array
+use denote.Enum.Declared
+use denote.Enum.Laws as Laws''
+use denote.Exit
+use denote.Struct.Declared as Declared'
+use denote.Struct.Laws as Laws'3
+use mathlib.Core.List
+use mathlib.Core.Path as Path'
+use mir.Syntax
+
+abbrev pub ps : List.List (Kinds.PK 2)
+ps = List._∷_ (Value.pVal record { ty = Declared'.row Settings.the-type; one = Path'.refl; val = Laws'3.val Settings.the-type Laws'.the-laws; tells = Laws'3.tells Settings.the-type Laws'.the-laws; still = Laws'3.still Settings.the-type Laws'.the-copy Exit.yes; row = Rows.whole (Declared'.row Settings.the-type); rd = λ x. x; mk = λ x. x } λ M 𝓤 H A W. record { copies = Laws'3.copy Settings.the-type Laws'.the-copy 𝓤 H A W; lawful = Laws'3.lawful Settings.the-type Laws'.the-laws 𝓤 H A W; makes = Laws'3.makes Settings.the-type Laws'.the-plain 𝓤 H A; in-mem = Local.mem-whole 𝓤 H A W (Declared'.row Settings.the-type); of-mem = Local.whole-mem 𝓤 H A W (Declared'.row Settings.the-type) }) (List._∷_ (ShrSlice.pShrS Record.the-row 0 tt) (List._∷_ (MutSlice.pMutS (Referent.rtF (Referent.fInt Syntax.w8)) 1 tt) List.[]))
+
+abbrev pub r : Kinds.RK 2
+r = Value.rVal record { ty = Declared.row DecomposeAnswer.the-type; one = Path'.refl; val = Laws''.val DecomposeAnswer.the-type Laws.the-laws; tells = Laws''.tells DecomposeAnswer.the-type Laws.the-laws; still = Laws''.still DecomposeAnswer.the-type Laws.the-copy Exit.yes; row = Rows.whole (Declared.row DecomposeAnswer.the-type); rd = λ x. x; mk = λ x. x } λ M 𝓤 H A W. record { copies = Laws''.copy DecomposeAnswer.the-type Laws.the-copy 𝓤 H A W; lawful = Laws''.lawful DecomposeAnswer.the-type Laws.the-laws 𝓤 H A W tt; makes = Laws''.makes DecomposeAnswer.the-type Laws.the-plain 𝓤 H A; in-mem = Local.mem-whole 𝓤 H A W (Declared.row DecomposeAnswer.the-type); of-mem = Local.whole-mem 𝓤 H A W (Declared.row DecomposeAnswer.the-type) }

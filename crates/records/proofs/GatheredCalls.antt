@@ -1,0 +1,87 @@
+-- The calls on gathered numbers come to what the calls on the records come to: up to 512 records the numbers state them all, and more are
+-- refused for their number, whatever they are. Assumes nothing.
+use mathlib.Core.Bool.{Bool, true, false}
+use mathlib.Core.List.{List}
+use mathlib.Core.Logic.{⊎-elim}
+use mathlib.Core.Path.{_≡_, refl, subst, _∙_}
+use Prim.Native.Nat.{ℕ, _<_, min}
+use native.Mathlib.Omega.{arith}
+use lib.Dec.{leb·zero}
+use lib.ListN.{length, take}
+use lib.Seq.{take-all}
+use borrow.Author.Tests.{lt-leb}
+use Rattle.rules.specs.declared.layer.Settings.{Settings}
+use Rattle.rules.specs.declared.layer.Piece.{Piece}
+use Rattle.rules.specs.declared.refusal.Place.{Place}
+use Rattle.rules.specs.declared.answers.Score.{Score}
+use Rattle.rules.specs.Settings.{settingsInRange}
+use Rattle.rules.specs.Decomposition.{Run}
+use Rattle.rules.specs.Questions.{Outcome, refused, ask, andThen, judgeLayer}
+use Rattle.rules.specs.Answers.{lengthOf}
+use Rattle.rules.specs.Calls.{scoreMasks, decomposeLayer, masksAfter, writeLayer, bufferAfter}
+use Rattle.rules.specs.Demands.{Demand3Of}
+use Rattle.rules.proofs.Tests.{lt-or-ge}
+use Rattle.layout.specs.Flat.{piecesOf}
+use Rattle.layout.proofs.PieceLaws.{pieces-length}
+use Rattle.records.specs.Gathered.{Gathered}
+
+-- ---- what is promised of a call on pieces: of its outcome, and of lent memory after it
+
+abbrev Scored : Settings → List ℕ → Outcome Score → List Piece → Type 0
+Scored s masks o ps = o ≡ scoreMasks s ps masks
+
+abbrev Decomposed : Settings → List ℕ → Outcome Run → List ℕ → List Piece → Type 0
+Decomposed s masks o after ps =
+    (o ≡ decomposeLayer s ps masks)
+    × ((after ≡ masksAfter (decomposeLayer s ps masks) masks) × Demand3Of s ps o)
+
+abbrev Written : Settings → List ℕ → Outcome ℕ → List ℕ → List Piece → Type 0
+Written s buffer o after ps =
+    (o ≡ lengthOf (writeLayer s ps buffer))
+    × (after ≡ bufferAfter (writeLayer s ps buffer) buffer)
+
+-- ---- more than 512 pieces
+
+-- settings out of range are refused with the same number and place
+too-many : (s : Settings) (ps : List Piece) → 512 < length ps → judgeLayer s ps ≡ refused 4 Place.Nothing
+unfolding judgeLayer
+too-many s ps more = rw (lt-leb (length ps) 512 more, leb·zero (length ps)) (go (settingsInRange s))
+  where
+    go : (b : Bool) → _≡_ {A = Outcome (Unit {0})} (andThen (ask b 4 Place.Nothing) (λ _. refused 4 Place.Nothing)) (refused 4 Place.Nothing)
+    go true = refl
+    go false = refl
+
+-- ---- gathered records
+
+-- the first ones are stored, up to 512
+pub first-stored : (ps : List Piece) (flat : List ℕ) {n i : ℕ} → n ≡ length ps → i ≡ min n 512 → piecesOf flat i ≡ take i ps → Gathered ps flat n
+first-stored ps flat {n} {i} count end stored = record {
+  count = count;
+  pieces = λ few. let all : i ≡ n = omega arith in rw all at stored ∙ take-all n ps (omega arith);
+}
+
+module _ (s : Settings) {ps : List Piece} {flat : List ℕ} {n : ℕ} (gathered : Gathered ps flat n) where
+  -- what holds of the numbers' pieces holds of the records, if it does where both are refused
+  of-records : (P : List Piece → Type 0)
+      → (judgeLayer s (piecesOf flat n) ≡ refused 4 Place.Nothing → judgeLayer s ps ≡ refused 4 Place.Nothing → P (piecesOf flat n) → P ps)
+      → P (piecesOf flat n) → P ps
+  of-records P many =
+      ⊎-elim
+      (λ more. many (too-many s (piecesOf flat n) (omega (arith, pieces-length flat n))) (too-many s ps (omega (arith, gathered .count))))
+      (λ few. subst P (gathered .pieces few))
+      (lt-or-ge 512 n)
+
+  pub scored : (masks : List ℕ) {o : Outcome Score} → Scored s masks o (piecesOf flat n) → Scored s masks o ps
+  unfolding scoreMasks
+  scored masks {o} = of-records (Scored s masks o) (λ e f h. rw f (rw e at h))
+
+  pub decomposed : (masks : List ℕ) {after : List ℕ} {o : Outcome Run} → Decomposed s masks o after (piecesOf flat n) → Decomposed s masks o after ps
+  unfolding decomposeLayer
+  decomposed masks {after} {o} =
+      of-records (Decomposed s masks o after) λ e f h.
+      let none : o ≡ refused 4 Place.Nothing = rw e at (h .0) in
+      (rw f none, (rw f (rw e at (h .1 .0)), λ r ran. let z : _≡_ {A = ℕ} 0 1 = cc in absurd (omega arith)))
+
+  pub written : (buffer : List ℕ) {after : List ℕ} {o : Outcome ℕ} → Written s buffer o after (piecesOf flat n) → Written s buffer o after ps
+  unfolding writeLayer
+  written buffer {after} {o} = of-records (Written s buffer o after) λ e f h. (rw f (rw e at (h .0)), rw f (rw e at (h .1)))

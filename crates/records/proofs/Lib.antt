@@ -1,0 +1,2 @@
+pub mod GatheredCalls
+pub mod Carried

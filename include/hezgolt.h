@@ -1,0 +1,72 @@
+/*
+ * Hezgolt divides a chip layer, drawn as rectangles, over two to eight masks.
+ *
+ * One function takes the bytes of a layer text and gives the bytes of a result text. docs/RULES.md describes both texts,
+ * in sections 9 and 10. `rt staticlib loader` makes the library, target/staticlib/libloader.a, for x86-64 Linux. Of the C
+ * library it needs memcpy, memmove and memset, and nothing else.
+ */
+#ifndef HEZGOLT_H
+#define HEZGOLT_H
+
+#include <stdint.h>
+
+#ifdef __cplusplus
+extern "C" {
+#endif
+
+/* The greatest size of a layer text, in bytes. */
+#define HEZGOLT_LAYER_MOST 32768u
+
+/* The least size of a result buffer, in bytes. Every result text fits into it. */
+#define HEZGOLT_RESULT_LEAST 4096u
+
+/* An answer below this number is a length, and any other a refusal. */
+#define HEZGOLT_REFUSED 10000u
+
+/*
+ * In:
+ *
+ *   layer, layer_size    The layer text: ASCII lines, each ended by byte 10, the last one too. It needs no zero byte after
+ *                        it, and must have none inside.
+ *   result, result_size  A buffer for the result text, of HEZGOLT_RESULT_LEAST bytes or more.
+ *
+ * Out, where the layer was decomposed: the length of the result text, from 51 (five lines, for a layer without pieces) to
+ * 4,096. The text stands at the buffer's front. No zero byte follows it: the bytes past the text are left as they were.
+ *
+ * Out, where the call was refused: 10,000 x NUMBER + PLACE, and the whole buffer is left as it was. If r is what was
+ * returned, NUMBER is r / HEZGOLT_REFUSED and PLACE is r % HEZGOLT_REFUSED. The questions are asked in this order, those of
+ * 3 to 5 for one line after the other, and the first that is answered with no decides:
+ *
+ *   NUMBER  question                                                        PLACE
+ *   1       Has the buffer at least 4,096 bytes?                            0
+ *   2       Has the layer text at most 32,768 bytes?                        0
+ *   3       Is the line the one expected, and in its form?                  the line, from 1
+ *   4       Is each number of the line in its range?                        the line, from 1
+ *   5       Has the line's piece an area, X1 < X2 and Y1 < Y2?              the line, from 1
+ *   6       Is every piece clear of the earlier ones of its shape?          the first piece that is not, from 0
+ *
+ * For 3, a line that is missing, a last line without byte 10 and bytes after the last line each count as the next line.
+ *
+ * What the caller sees to:
+ *
+ *   Pointers  layer can be read for layer_size bytes, and result read and written for result_size bytes. The two areas do
+ *             not overlap, and nothing else writes to them during the call. A size of 0 is allowed; pass a pointer that is
+ *             not null with it all the same.
+ *   Stack     A call takes up to 431 KiB of its thread's stack, at 512 pieces that are searched to the last one (measured).
+ *             Give the thread 1 MiB.
+ *   Time      The setting `budget` bounds the steps of the search, and a call cannot be stopped before its end. A step takes
+ *             2 to 10 ns (measured) where a piece conflicts with some dozens of others, so that the greatest budget,
+ *             1,000,000,000, takes some seconds. It takes up to 110 ns if all 512 pieces conflict with each other on two
+ *             masks; the greatest budget is then two minutes. All the rest of a call takes some 10 ms at most.
+ *
+ * The function keeps nothing between calls and has no state of its own, so any number of threads may call it at once, each
+ * with its own buffer; they may share a layer text. It allocates nothing, reads and writes no files, leaves errno alone, and
+ * returns on every input. The same input always gives the same output.
+ */
+uint64_t hezgolt_decompose(const uint8_t *layer, uint64_t layer_size, uint8_t *result, uint64_t result_size);
+
+#ifdef __cplusplus
+}
+#endif
+
+#endif
