@@ -1,0 +1,198 @@
+//! Checks of one layer or text, with a count of what was seen and a report of what was wrong.
+
+use crate::compare::{compare, field, shown, Case};
+use crate::layer::Layer;
+use crate::reference::{self, Answer, Mutation};
+use crate::shrink;
+use crate::subject::Subject;
+use crate::tally::{Family, Tally};
+
+/// A difference, on the smallest input that was found for it.
+pub struct Finding {
+    pub text: Vec<u8>,
+    pub report: String,
+}
+
+/// Layers with at most so many assignments have all of them tried.
+const MOST_ASSIGNMENTS: u64 = 70_000;
+
+pub struct Checker {
+    pub subject: Subject,
+    pub tally: Tally,
+}
+
+impl Checker {
+    pub fn new(subject: Subject) -> Checker {
+        let tally = Tally::default();
+        Checker { subject, tally }
+    }
+
+    /// Compares one call on a text of any kind.
+    pub fn text(&mut self, family: Family, text: Vec<u8>, size: usize) -> Result<(), Finding> {
+        let case = self.case(text, size);
+        match self.compared(family, &case) {
+            Ok(_) => Ok(()),
+            Err(_) => Err(self.smallest(&case)),
+        }
+    }
+
+    /// Compares one call on a layer, and hands over the result text unless the layer is refused.
+    pub fn layer(
+        &mut self,
+        family: Family,
+        layer: &Layer,
+        size: usize,
+    ) -> Result<Option<Vec<u8>>, Finding> {
+        let case = self.case(layer.text(), size);
+        match self.compared(family, &case) {
+            Ok(answer) => Ok(answer.ok()),
+            Err(_) => Err(self.smallest(&case)),
+        }
+    }
+
+    /// Compares calls at rising budgets, and what they say with each other. A layer that is small
+    /// enough must have the least cost where the last of them says best.
+    pub fn budgets(&mut self, layer: &Layer, budgets: &[u64], size: usize) -> Result<(), Finding> {
+        let mut before: Option<Vec<u8>> = None;
+        for &budget in budgets {
+            let layer = layer.with_budget(budget);
+            let text = match self.layer(Family::Small, &layer, size)? {
+                Some(text) => text,
+                None => return Ok(()),
+            };
+            let fault = before.and_then(|before| fault_of_more_budget(&before, &text));
+            if let Some(fault) = fault {
+                return Err(broken(&layer, fault));
+            }
+            before = Some(text);
+        }
+        match before {
+            Some(text) if is_best(&text) => self.least(layer, cost(&text)),
+            _ => Ok(()),
+        }
+    }
+
+    /// What is called best must cost no more than any other assignment.
+    fn least(&mut self, layer: &Layer, cost: u64) -> Result<(), Finding> {
+        let count = layer.settings.masks.checked_pow(layer.pieces.len() as u32);
+        if count.unwrap_or(u64::MAX) > MOST_ASSIGNMENTS {
+            return Ok(());
+        }
+        self.tally.least += 1;
+        let least = reference::least_cost(layer);
+        if cost != least {
+            let fault = format!("is called best but the least cost is {least}");
+            return Err(broken(layer, &fault));
+        }
+        Ok(())
+    }
+
+    fn case(&self, text: Vec<u8>, result_size: usize) -> Case {
+        Case {
+            text,
+            result_size,
+            salt: self.tally.cases(),
+        }
+    }
+
+    fn compared(&mut self, family: Family, case: &Case) -> Result<Answer, String> {
+        let answer = compare(self.subject, case);
+        self.tally.count(family, answer.as_ref().ok());
+        answer
+    }
+
+    /// The report of a case that differs, on as small a text as is found.
+    fn smallest(&self, case: &Case) -> Finding {
+        let differs = |text: &[u8]| compare(self.subject, &with_text(case, text)).is_err();
+        let text = match reference::read(&case.text, Mutation::None) {
+            Ok(layer) => shrink::layer(&layer, &|layer| differs(&layer.text())).text(),
+            Err(_) => shrink::text(&case.text, &differs),
+        };
+        let fault = compare(self.subject, &with_text(case, &text)).err();
+        let report = format!(
+            "with a result buffer of {} bytes {}\nthe layer text:\n{}",
+            case.result_size,
+            fault.unwrap_or_default(),
+            shown(&text)
+        );
+        Finding { text, report }
+    }
+}
+
+/// The same call on another text.
+fn with_text(case: &Case, text: &[u8]) -> Case {
+    let text = text.to_vec();
+    Case { text, ..*case }
+}
+
+fn is_best(text: &[u8]) -> bool {
+    text.starts_with(b"verdict=best\n")
+}
+
+fn cost(text: &[u8]) -> u64 {
+    field(text, "cost=").expect("a result text has a cost")
+}
+
+/// What is wrong about a result with more budget than another had.
+fn fault_of_more_budget(less: &[u8], more: &[u8]) -> Option<&'static str> {
+    if cost(more) > cost(less) {
+        Some("costs more than with less budget")
+    } else if is_best(less) && less != more {
+        Some("is not the best result that less budget gave")
+    } else {
+        None
+    }
+}
+
+/// The subject and the reference agree on a result that the rules do not allow.
+fn broken(layer: &Layer, fault: &str) -> Finding {
+    let text = layer.text();
+    let report = format!("the result {fault}\nthe layer text:\n{}", shown(&text));
+    Finding { text, report }
+}
+
+#[cfg(test)]
+mod tests {
+    use super::*;
+    use crate::layer::{Piece, Settings};
+
+    fn result(verdict: &str, cost: u64) -> Vec<u8> {
+        format!("verdict={verdict}\ncost={cost}\n").into_bytes()
+    }
+
+    #[test]
+    fn more_budget_is_never_worse() {
+        let fault = |less: (&str, u64), more: (&str, u64)| {
+            fault_of_more_budget(&result(less.0, less.1), &result(more.0, more.1)).is_some()
+        };
+        assert!(!fault(("open", 5), ("open", 5)));
+        assert!(!fault(("open", 5), ("best", 4)));
+        assert!(fault(("open", 5), ("open", 6)));
+        assert!(fault(("best", 5), ("best", 4)));
+        assert!(fault(("best", 5), ("open", 5)));
+    }
+
+    #[test]
+    fn best_means_least() {
+        let piece = |shape| Piece {
+            shape,
+            x1: 0,
+            y1: 0,
+            x2: 1,
+            y2: 1,
+        };
+        let layer = Layer {
+            settings: Settings {
+                masks: 2,
+                spacing: 1,
+                margin: 1,
+                weight: 7,
+                budget: 0,
+            },
+            pieces: [0, 1, 2].map(piece).to_vec(),
+        };
+        let mut checker = Checker::new(Subject::Wrong(Mutation::None));
+        assert!(checker.least(&layer, 7).is_ok());
+        assert!(checker.least(&layer, 8).is_err());
+    }
+}

@@ -1,0 +1,85 @@
+//! Layers and texts to compare on. Everything comes from the random numbers that are handed in.
+
+mod cluster;
+mod crossings;
+mod damage;
+mod limits;
+mod lively;
+mod made;
+mod tiles;
+mod wires;
+
+use crate::layer::{Layer, Settings};
+use crate::random::Random;
+pub use damage::damaged;
+pub use limits::at_limits;
+pub use lively::lively;
+pub use made::made;
+
+/// A layer of at most `count` pieces, of one of four kinds, with a budget of 0.
+pub fn any_layer(random: &mut Random, count: usize) -> Layer {
+    match random.below(4) {
+        0 => wires::wires(random, count),
+        1 => cluster::cluster(random, count),
+        2 => tiles::tiles(random, count),
+        _ => crossings::crossings(random, count),
+    }
+}
+
+/// Sizes of result buffers: too small ones, the least that is allowed, and larger ones.
+const RESULT_SIZES: [usize; 8] = [0, 1, 4095, 4096, 4097, 5000, 8192, 65_536];
+
+/// The least buffer that is allowed, now and then a larger one.
+pub fn large_enough(random: &mut Random) -> usize {
+    if random.once_in(8) {
+        random.pick(&RESULT_SIZES[3..])
+    } else {
+        4096
+    }
+}
+
+/// Mostly a buffer that is large enough, now and then one that is not.
+pub fn any_size(random: &mut Random) -> usize {
+    if random.once_in(8) {
+        random.pick(&RESULT_SIZES)
+    } else {
+        large_enough(random)
+    }
+}
+
+/// Settings in their ranges, with a budget of 0. Few masks are common, since they leave a core.
+fn settings(random: &mut Random) -> Settings {
+    let spacing = spacing(random);
+    let margin = match random.below(3) {
+        0 => 10,
+        1 => random.between(1, 3),
+        _ => random.between(1, spacing),
+    };
+    Settings {
+        masks: random.pick(&[2, 2, 2, 3, 3, 3, 4, 4, 5, 6, 7, 8]),
+        spacing,
+        margin,
+        weight: weight(random),
+        budget: 0,
+    }
+}
+
+/// Often divisible by 5, so that a distance of exactly the spacing can be slanted (3, 4, 5).
+fn spacing(random: &mut Random) -> u64 {
+    match random.below(6) {
+        0 => random.between(1, 20),
+        1 => random.between(1, 200),
+        2 => 5 * random.between(1, 40),
+        3 => 5 * random.between(1, 20_000),
+        _ => 80,
+    }
+}
+
+fn weight(random: &mut Random) -> u64 {
+    match random.below(4) {
+        0 => random.pick(&[1, 2, 3]),
+        1 => random.between(1, 1000),
+        2 => 1000,
+        _ => 10,
+    }
+}

@@ -1,0 +1,92 @@
+//! The decomposition as docs/RULES.md states it, written from that text and as plainly as possible:
+//! no code, definition or trick of the proved crates is used. Speed does not matter.
+//!
+//! Where the self-test can put a fault, a function takes a `Mutation`; `Mutation::None` is the rules.
+
+mod edges;
+mod mutation;
+mod peel;
+mod read;
+mod score;
+mod search;
+#[cfg(test)]
+mod tests;
+
+use crate::layer::Layer;
+use edges::Graph;
+pub use mutation::Mutation;
+pub use read::read;
+pub use score::{least_cost, score, Score};
+
+/// Why a call is refused (RULES 11). The place is a line, a piece, or 0 for nothing.
+#[derive(Clone, Copy, Debug, PartialEq, Eq)]
+pub struct Refusal {
+    pub number: u64,
+    pub place: u64,
+}
+
+impl Refusal {
+    fn new(number: u64, place: u64) -> Refusal {
+        Refusal { number, place }
+    }
+}
+
+/// The result text, or a refusal.
+pub type Answer = Result<Vec<u8>, Refusal>;
+
+/// The outcome of a decomposition (RULES 8).
+pub struct Run {
+    pub masks: Vec<u64>,
+    pub score: Score,
+    pub steps: u64,
+    pub best: bool,
+}
+
+/// The least size of a result buffer.
+const RESULT_ROOM: usize = 4096;
+
+/// The job loader's call (RULES 12): a layer text in, its result text out.
+pub fn answer(text: &[u8], result_size: usize, wrong: Mutation) -> Answer {
+    let room = RESULT_ROOM - usize::from(wrong == Mutation::BufferOneShorter);
+    if result_size < room {
+        return Err(Refusal::new(1, 0));
+    }
+    let layer = read(text, wrong)?;
+    Ok(result_text(&run(&layer, wrong)))
+}
+
+/// The whole decomposition of a valid layer (RULES 4 to 7).
+pub fn run(layer: &Layer, wrong: Mutation) -> Run {
+    let graph = Graph::of(layer, wrong);
+    let peeled = peel::peel(&graph, layer.settings.masks, wrong);
+    let searched = search::search(&graph, &peeled.core, &layer.settings, wrong);
+    let masks = peel::put_back(
+        &graph,
+        &peeled.removed,
+        searched.masks,
+        layer.settings.masks,
+        wrong,
+    );
+    Run {
+        score: score::score_of_graph(&graph, &masks, layer.settings.weight),
+        masks,
+        steps: searched.steps,
+        best: searched.best,
+    }
+}
+
+/// The result text (RULES 10).
+fn result_text(run: &Run) -> Vec<u8> {
+    let mut text = format!(
+        "verdict={}\nconflicts={}\nstitches={}\ncost={}\nsteps={}\n",
+        if run.best { "best" } else { "open" },
+        run.score.conflicts,
+        run.score.stitches,
+        run.score.cost,
+        run.steps
+    );
+    for mask in &run.masks {
+        text += &format!("mask={mask}\n");
+    }
+    text.into_bytes()
+}

@@ -1,0 +1,159 @@
+//! The layer text and the questions that it must pass (RULES 9 and 11).
+
+use super::edges::is_overlap;
+use super::mutation::Mutation;
+use super::Refusal;
+use crate::layer::{Layer, Piece, Settings};
+
+const LONGEST_TEXT: usize = 32_768;
+
+/// Both ends belong to a range.
+type Range = (u64, u64);
+
+const MASKS: Range = (2, 8);
+const SPACING: Range = (1, 100_000);
+const MARGIN: Range = (1, 100_000);
+const WEIGHT: Range = (1, 1_000);
+const BUDGET: Range = (0, 1_000_000_000);
+const PIECES: Range = (0, 512);
+const SHAPE: Range = (0, 511);
+const COORDINATE: Range = (0, 1_000_000);
+const PIECE: [Range; 5] = [SHAPE, COORDINATE, COORDINATE, COORDINATE, COORDINATE];
+
+pub fn read(text: &[u8], wrong: Mutation) -> Result<Layer, Refusal> {
+    if text.len() > LONGEST_TEXT + usize::from(wrong == Mutation::TextOneLonger) {
+        return Err(Refusal::new(2, 0));
+    }
+    let mut lines = Lines {
+        rest: text,
+        line: 0,
+        wrong,
+    };
+    let settings = Settings {
+        masks: lines.number("masks=", MASKS)?,
+        spacing: lines.number("spacing=", SPACING)?,
+        margin: lines.number("margin=", MARGIN)?,
+        weight: lines.number("weight=", WEIGHT)?,
+        budget: lines.number("budget=", BUDGET)?,
+    };
+    let mut pieces = Vec::new();
+    for _ in 0..lines.number("pieces=", PIECES)? {
+        pieces.push(lines.piece()?);
+    }
+    if wrong == Mutation::OverlapBeforeSurplus {
+        judge_overlaps(&pieces, wrong)?;
+    }
+    lines.end()?;
+    judge_overlaps(&pieces, wrong)?;
+    Ok(Layer { settings, pieces })
+}
+
+/// Question 6: names the first piece that overlaps an earlier one of its shape.
+fn judge_overlaps(pieces: &[Piece], wrong: Mutation) -> Result<(), Refusal> {
+    for (later, piece) in pieces.iter().enumerate() {
+        let earlier = pieces[..later].iter().position(|p| is_overlap(p, piece));
+        if let Some(earlier) = earlier {
+            let named = match wrong {
+                Mutation::EarlierPieceNamed => earlier,
+                _ => later,
+            };
+            return Err(Refusal::new(6, named as u64));
+        }
+    }
+    Ok(())
+}
+
+/// The lines that have not been read.
+struct Lines<'a> {
+    rest: &'a [u8],
+    /// The number of the line that was read last, from 1.
+    line: u64,
+    wrong: Mutation,
+}
+
+impl<'a> Lines<'a> {
+    fn number(&mut self, key: &str, range: Range) -> Result<u64, Refusal> {
+        Ok(self.numbers(key, &[range])?[0])
+    }
+
+    fn piece(&mut self) -> Result<Piece, Refusal> {
+        let n = self.numbers("piece=", &PIECE)?;
+        let (shape, x1, y1, x2, y2) = (n[0], n[1], n[2], n[3], n[4]);
+        if x1 < x2 && y1 < y2 {
+            let piece = Piece {
+                shape,
+                x1,
+                y1,
+                x2,
+                y2,
+            };
+            Ok(piece)
+        } else {
+            Err(self.refused(5))
+        }
+    }
+
+    /// The numbers of the next line: first its form, then the ranges.
+    fn numbers(&mut self, key: &str, ranges: &[Range]) -> Result<Vec<u64>, Refusal> {
+        self.line += 1;
+        let line = self.take_line().ok_or(self.refused(3))?;
+        let numbers = numbers_after(key, line, self.wrong).ok_or(self.refused(3))?;
+        if numbers.len() != ranges.len() {
+            return Err(self.refused(3));
+        }
+        let mut both = numbers.iter().zip(ranges);
+        if both.any(|(number, range)| !(range.0..=range.1).contains(number)) {
+            return Err(self.refused(4));
+        }
+        Ok(numbers)
+    }
+
+    /// The bytes up to the next byte 10, which is taken too.
+    fn take_line(&mut self) -> Option<&'a [u8]> {
+        match self.rest.iter().position(|&byte| byte == b'\n') {
+            Some(end) => {
+                let line = &self.rest[..end];
+                self.rest = &self.rest[end + 1..];
+                Some(line)
+            }
+            None if self.wrong == Mutation::LastNewlineOptional => {
+                Some(std::mem::take(&mut self.rest))
+            }
+            None => None,
+        }
+    }
+
+    /// Text after the last line counts as one more line.
+    fn end(&self) -> Result<(), Refusal> {
+        if self.rest.is_empty() {
+            return Ok(());
+        }
+        Err(Refusal::new(3, self.line + 1))
+    }
+
+    fn refused(&self, number: u64) -> Refusal {
+        Refusal::new(number, self.line)
+    }
+}
+
+/// The numbers of a line that starts with the key, if it has that form.
+fn numbers_after(key: &str, line: &[u8], wrong: Mutation) -> Option<Vec<u64>> {
+    let numbers = line.strip_prefix(key.as_bytes())?;
+    let numbers = numbers.split(|&byte| byte == b',');
+    numbers.map(|digits| number(digits, wrong)).collect()
+}
+
+/// The value of some digits; one that is too large for 64 bits is as large as they allow.
+fn number(digits: &[u8], wrong: Mutation) -> Option<u64> {
+    let leading_zero = digits.len() > 1 && digits[0] == b'0';
+    if digits.is_empty() || leading_zero || !digits.iter().all(u8::is_ascii_digit) {
+        return None;
+    }
+    let append = |value: u64, digit: u64| match wrong {
+        Mutation::WrapAt32Bits => value.wrapping_mul(10).wrapping_add(digit) % (1 << 32),
+        Mutation::WrapAt64Bits => value.wrapping_mul(10).wrapping_add(digit),
+        _ => value.saturating_mul(10).saturating_add(digit),
+    };
+    let digits = digits.iter().map(|digit| u64::from(digit - b'0'));
+    Some(digits.fold(0, append))
+}

@@ -1,0 +1,104 @@
+//! Stored layers and scores, through the reference and, for layers, through the library.
+
+use std::ffi::OsStr;
+use std::fs;
+use std::path::{Path, PathBuf};
+
+use crate::compare::{compare, shown, Case};
+use crate::reference::{self, Answer, Mutation, Refusal};
+use crate::subject::Subject;
+
+/// How many results and scores of the first folder agree, or what is different about one that
+/// does not. Their layers are in any of the folders.
+pub fn vectors(folders: &[&Path]) -> Result<String, String> {
+    let (mut results, mut scores) = (0, 0);
+    for stored in files(folders[0])? {
+        let expected = read(&stored)?;
+        match stored.extension().and_then(OsStr::to_str) {
+            Some("result") => {
+                check_result(&layer_of(&stored, folders)?, &expected)?;
+                results += 1;
+            }
+            Some("score") => {
+                check_score(&layer_of(&stored, folders)?, &expected)?;
+                scores += 1;
+            }
+            _ => {}
+        }
+    }
+    match results + scores {
+        0 => Err(String::from("no results and no scores are stored there")),
+        _ => Ok(format!("{results} results and {scores} scores agree")),
+    }
+}
+
+fn files(folder: &Path) -> Result<Vec<PathBuf>, String> {
+    let failed = |error| format!("{}: {error}", folder.display());
+    let mut files = Vec::new();
+    for entry in fs::read_dir(folder).map_err(failed)? {
+        files.push(entry.map_err(failed)?.path());
+    }
+    files.sort();
+    Ok(files)
+}
+
+fn layer_of(stored: &Path, folders: &[&Path]) -> Result<PathBuf, String> {
+    let name = stored.with_extension("layer");
+    let name = name.file_name().unwrap_or_default();
+    let mut places = folders.iter().map(|folder| folder.join(name));
+    let found = places.find(|path| path.exists());
+    found.ok_or_else(|| format!("{} has no layer", stored.display()))
+}
+
+fn read(path: &Path) -> Result<Vec<u8>, String> {
+    fs::read(path).map_err(|error| format!("{}: {error}", path.display()))
+}
+
+fn check_result(layer: &Path, expected: &[u8]) -> Result<(), String> {
+    let case = Case {
+        text: read(layer)?,
+        result_size: 4096,
+        salt: 0,
+    };
+    let answer = compare(Subject::Library, &case)
+        .map_err(|fault| format!("{}: library and reference: {fault}", layer.display()))?;
+    same(layer, &printed(answer), expected)
+}
+
+/// Scores go through the reference only: the library's call does not score.
+fn check_score(layer: &Path, expected: &[u8]) -> Result<(), String> {
+    let masks = masks(&read(&layer.with_extension("masks"))?)
+        .ok_or_else(|| format!("{}: no list of masks", layer.display()))?;
+    let scored = reference::read(&read(layer)?, Mutation::None)
+        .and_then(|layer| reference::score(&layer, &masks));
+    let text = scored.map(|score| {
+        let (conflicts, stitches, cost) = (score.conflicts, score.stitches, score.cost);
+        format!("conflicts={conflicts}\nstitches={stitches}\ncost={cost}\n").into_bytes()
+    });
+    same(layer, &printed(text), expected)
+}
+
+fn masks(text: &[u8]) -> Option<Vec<u64>> {
+    let text = std::str::from_utf8(text).ok()?;
+    let mask = |line: &str| line.strip_prefix("mask=")?.parse().ok();
+    text.lines().map(mask).collect()
+}
+
+/// What the program `layer` prints for an answer (RULES 12).
+fn printed(answer: Answer) -> Vec<u8> {
+    answer.unwrap_or_else(|Refusal { number, place }| {
+        format!("refused={number},{place}\n").into_bytes()
+    })
+}
+
+fn same(layer: &Path, found: &[u8], expected: &[u8]) -> Result<(), String> {
+    if found == expected {
+        return Ok(());
+    }
+    Err(format!(
+        "{}: stored:\n{}computed:\n{}",
+        layer.display(),
+        shown(expected),
+        shown(found)
+    ))
+}
