@@ -1,0 +1,106 @@
+/* Calls on other threads: on a stack of the size that hezgolt.h asks for, and many at once. */
+#include <pthread.h>
+#include <stdlib.h>
+#include <string.h>
+
+#include "check.h"
+
+/* What hezgolt.h tells a caller to give. */
+#define STACK_STATED (1024 * 1024)
+
+#define THREADS 8
+
+struct task {
+    const struct layer *layers;
+    size_t count;
+    size_t first;
+    enum kind kind;
+    int shared;
+    pthread_barrier_t *together;
+};
+
+static void *run_task(void *argument)
+{
+    const struct task *task = argument;
+    uint8_t *result = reserve(HEZGOLT_RESULT_LEAST);
+
+    if (task->together != NULL)
+        pthread_barrier_wait(task->together);
+    for (size_t i = 0; i < task->count; i++) {
+        const struct layer *layer = &task->layers[(task->first + i) % task->count];
+        see_answer(layer,
+                   task->shared ? call_shared(layer->bytes, layer->size, result)
+                                : call(task->kind, layer->bytes, layer->size, result, HEZGOLT_RESULT_LEAST),
+                   result);
+    }
+    free(result);
+    return NULL;
+}
+
+static pthread_t start(struct task *task)
+{
+    pthread_attr_t attributes;
+    pthread_t thread;
+
+    if (pthread_attr_init(&attributes) != 0 || pthread_attr_setstacksize(&attributes, STACK_STATED) != 0)
+        fail("no stack of the stated size");
+    if (pthread_create(&thread, &attributes, run_task, task) != 0)
+        fail("no thread");
+    pthread_attr_destroy(&attributes);
+    return thread;
+}
+
+void check_stack(int few)
+{
+    struct layer layers[5];
+    struct task task = {layers, 5, 0, GUARDED, 0, NULL};
+    unsigned budget = few ? 2000 : 200000;
+
+    begin("stack");
+    layers[0] = ring_layer(2);
+    layers[1] = ring_layer(8);
+    layers[2] = clique_layer(2, budget);
+    layers[3] = clique_layer(8, budget);
+    layers[4] = clique_layer(4, 0);
+    for (int kind = 0; kind < KINDS; kind++) {
+        task.kind = (enum kind)kind;
+        pthread_join(start(&task), NULL);
+    }
+    for (size_t i = 0; i < 5; i++)
+        free_layer(&layers[i]);
+}
+
+/* All threads at once over the same layer texts. In the second round each begins with another one. */
+static void run_threads(const struct layer *layers, size_t count, int apart)
+{
+    struct task tasks[THREADS];
+    pthread_t threads[THREADS];
+    pthread_barrier_t together;
+
+    pthread_barrier_init(&together, NULL, THREADS);
+    for (size_t i = 0; i < THREADS; i++) {
+        struct task task = {layers, count, apart ? i * count / THREADS : 0, GUARDED, 1, &together};
+        tasks[i] = task;
+        threads[i] = start(&tasks[i]);
+    }
+    for (size_t i = 0; i < THREADS; i++)
+        pthread_join(threads[i], NULL);
+    pthread_barrier_destroy(&together);
+}
+
+void check_threads(const struct layer *layers, size_t count)
+{
+    uint8_t **kept = reserve(count * sizeof *kept);
+
+    begin("threads");
+    for (size_t i = 0; i < count; i++)
+        kept[i] = memcpy(reserve(layers[i].size), layers[i].bytes, layers[i].size);
+    run_threads(layers, count, 0);
+    run_threads(layers, count, 1);
+    for (size_t i = 0; i < count; i++) {
+        if (memcmp(kept[i], layers[i].bytes, layers[i].size) != 0)
+            fail("%s: the layer text was changed", layers[i].name);
+        free(kept[i]);
+    }
+    free(kept);
+}
