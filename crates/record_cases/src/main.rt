@@ -1,0 +1,200 @@
+// Runs the calls on lent records, and reports of each case whether it came out as stated in RULES 11 to 13: worked cases, and refusals,
+// after which lent memory must be as it was.
+ghost use Prim.Native.Nat.{_≤_};
+
+mod layers;
+mod lent;
+mod outcomes;
+mod report;
+
+use layers::FAR;
+use layers::OUTSIDE;
+use layers::OVERLAP;
+use layers::ROW;
+use layers::THIN;
+use layers::WIRE;
+use libc::STDIN_FILENO;
+use outcomes::best;
+use outcomes::refused;
+use outcomes::scored;
+use outcomes::with_memory;
+use outcomes::written;
+use report::outcome;
+
+// ---- a call, and what it comes to
+
+// A mask list: the first four masks are hexadecimal digits, and the others are alike.
+fn list(digits: u32, others: u8) -> [u8; 513] {
+    let mut masks = [others; 513];
+    masks[0] = (digits / 4096 % 16) as u8;
+    masks[1] = (digits / 256 % 16) as u8;
+    masks[2] = (digits / 16 % 16) as u8;
+    masks[3] = (digits % 16) as u8;
+    masks
+}
+
+// Decomposes n records of a layer on k masks. The mask list must then be as given.
+fn decompose_in(
+    name: &[u8],
+    layer: u32,
+    k: u32,
+    n: usize,
+    masks: &mut [u8],
+    after: &[u8],
+    wanted: [u64; 8],
+)
+    requires { ⌜ n ≤ 513 ⌝ }
+{
+    let came = outcomes::decompose(layer, k, n, masks);
+    outcome(name, with_memory(came, check::same(masks, after)), wanted);
+}
+
+// The same with a list of m masks, all 9, which must then be the first m of `after`.
+fn decompose(name: &[u8], layer: u32, k: u32, n: usize, m: u32, after: [u8; 513], wanted: [u64; 8])
+    requires { ⌜ n ≤ 513 ⌝ }
+{
+    let mut masks = [9u8; 513];
+    let room = io::count(m as isize, &masks);
+    let size = io::count(m as isize, &after);
+    decompose_in(
+        name,
+        layer,
+        k,
+        n,
+        &mut masks[..room],
+        &after[..size],
+        wanted,
+    );
+}
+
+fn decompose_refused(name: &[u8], layer: u32, k: u32, n: usize, m: u32, number: u64, place: u64)
+    requires { ⌜ n ≤ 513 ⌝ }
+{
+    decompose(name, layer, k, n, m, [9u8; 513], refused(number, place));
+}
+
+// Scores n records of a layer on two masks, with a list of m masks.
+fn score(name: &[u8], layer: u32, n: usize, m: u32, digits: u32, wanted: [u64; 8])
+    requires { ⌜ n ≤ 513 ⌝ }
+{
+    let masks = list(digits, 0);
+    let size = io::count(m as isize, &masks);
+    outcome(name, outcomes::score(layer, n, &masks[..size]), wanted);
+}
+
+// Writes n records of a layer. The buffer must then be as given.
+fn write_in(name: &[u8], layer: u32, n: usize, buffer: &mut [u8], after: &[u8], wanted: [u64; 8])
+    requires { ⌜ n ≤ 513 ⌝ }
+{
+    let came = outcomes::write_layer(layer, n, buffer);
+    outcome(name, with_memory(came, check::same(buffer, after)), wanted);
+}
+
+// The text is refused, and a buffer of zeros stays.
+fn write_refused(name: &[u8], layer: u32, n: usize, room: u32, number: u64, place: u64)
+    requires { ⌜ n ≤ 513 ⌝ }
+{
+    let zeros = io::large_buffer();
+    let mut buffer = io::large_buffer();
+    let lent = io::count(room as isize, &buffer);
+    let size = io::count(room as isize, &zeros);
+    write_in(
+        name,
+        layer,
+        n,
+        &mut buffer[..lent],
+        &zeros[..size],
+        refused(number, place),
+    );
+}
+
+// ---- worked cases
+
+fn results() {
+    decompose(
+        b"decompose the row",
+        ROW,
+        2,
+        3,
+        3,
+        list(0x0100, 9),
+        best(1, 0, 10, 5),
+    );
+    decompose(
+        b"decompose 512 records",
+        FAR,
+        2,
+        512,
+        512,
+        [0u8; 513],
+        best(0, 0, 0, 0),
+    );
+}
+
+fn scores() {
+    score(
+        b"score the row on 0, 1, 0",
+        ROW,
+        3,
+        3,
+        0x0100,
+        scored(1, 0, 10),
+    );
+    score(
+        b"score the row on 1, 1, 1",
+        ROW,
+        3,
+        3,
+        0x1110,
+        scored(3, 0, 30),
+    );
+    score(
+        b"score the wire on 0, 1, 1, 0",
+        WIRE,
+        4,
+        4,
+        0x0110,
+        scored(0, 1, 1),
+    );
+}
+
+// The text is the one on standard input, and the zeros after it stay.
+fn text() {
+    let mut after = io::large_buffer();
+    let size = io::read_full(STDIN_FILENO, &mut after);
+    let mut buffer = io::large_buffer();
+    write_in(b"write the row", ROW, 3, &mut buffer, &after, written(size));
+}
+
+// ---- refusals
+
+fn bad_layers() {
+    decompose_refused(b"decompose 513 records", FAR, 2, 513, 513, 4, 0);
+    decompose_refused(b"piece 1 of no width", THIN, 2, 3, 3, 5, 1);
+    decompose_refused(b"piece 2 out of range", OUTSIDE, 2, 3, 3, 4, 2);
+    decompose_refused(b"piece 2 overlaps piece 0", OVERLAP, 2, 3, 3, 6, 2);
+    decompose_refused(b"decompose on 9 masks", ROW, 9, 3, 3, 4, 0);
+    decompose_refused(b"room for 2 masks", ROW, 2, 3, 2, 7, 0);
+    decompose_refused(b"room for 4 masks", ROW, 2, 3, 4, 7, 0);
+}
+
+fn bad_scores() {
+    score(b"score 513 records", FAR, 513, 513, 0, refused(4, 0));
+    score(b"score 2 masks", ROW, 3, 2, 0x0100, refused(7, 0));
+    score(b"score 4 masks", ROW, 3, 4, 0x0100, refused(7, 0));
+    score(b"piece 1 on mask 2 of 2", ROW, 3, 3, 0x0220, refused(8, 1));
+}
+
+fn bad_texts() {
+    write_refused(b"write 513 records", FAR, 513, 32768, 4, 0);
+    write_refused(b"room for 32767 bytes", ROW, 3, 32767, 1, 0);
+}
+
+fn main() {
+    results();
+    scores();
+    text();
+    bad_layers();
+    bad_scores();
+    bad_texts();
+}
