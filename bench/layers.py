@@ -1,0 +1,47 @@
+"""Layers that are made from a seed, and their texts. A piece is its shape, X1, Y1, X2 and Y2."""
+
+
+def draws(seed):
+    """Numbers below 65536, by the generator of decomposer_main and reference.rs."""
+    state = seed
+    while True:
+        state = (1_664_525 * state + 1_013_904_223) % 2**32
+        yield state // 65_536
+
+
+def made(seed, count):
+    """Squares of 20 nm, each a shape of its own, on a grid of 32 by 32 places that are 40 nm apart: the more of them, the denser."""
+    draw = draws(seed)
+    pieces = []
+    for shape in range(count):
+        x, y = 40 * (next(draw) % 32), 40 * (next(draw) % 32)
+        pieces.append((shape, x, y, x + 20, y + 20))
+    return pieces
+
+
+def wires(seed, count, pitch, gap):
+    """Wires of 20 nm on four tracks, each cut into one to four pieces of 40 to 100 nm. Between two wires of a track there are 20 nm up to
+    the gap. The track that is the shortest so far gets the next wire."""
+    draw = draws(seed)
+    ends = [0] * 4
+    pieces = []
+    shape = 0
+    while len(pieces) < count:
+        track = ends.index(min(ends))
+        x, y = ends[track] + 20 + 20 * (next(draw) % (gap // 20)), pitch * track
+        for _ in range(1 + next(draw) % 4):
+            length = 40 + 20 * (next(draw) % 4)
+            pieces.append((shape, x, y, x + length, y + 20))
+            x += length
+        ends[track] = x
+        shape += 1
+    return pieces[:count]
+
+
+SPACING, MARGIN, WEIGHT = 80, 10, 10
+
+
+def text(pieces, masks, budget):
+    """The layer text (RULES 9)."""
+    settings = (("masks", masks), ("spacing", SPACING), ("margin", MARGIN), ("weight", WEIGHT), ("budget", budget), ("pieces", len(pieces)))
+    return "".join(f"{key}={value}\n" for key, value in settings) + "".join("piece=%d,%d,%d,%d,%d\n" % piece for piece in pieces)

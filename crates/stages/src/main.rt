@@ -1,0 +1,137 @@
+// Does the first stages of a run, as often as asked, so that a clock outside this program can tell the stages apart (bench/stages). The standard
+// input is a line `stages=LAST,REPEATS` and a layer text. LAST is the last stage to do:
+//
+// 0 none, 1 reading the text, 2 judging the numbers, 3 adjacency words, 4 peeling, 5 the search of the core, 6 putting back and the score, 7 writing
+// the result text, 8 printing it.
+ghost use mathlib.Core.List.{[], _∷_};
+ghost use mathlib.Core.Path.{_≡_};
+ghost use lib.ListN.{length};
+ghost use Rattle.rules.specs.Questions.{Valid};
+ghost use Rattle.layout.specs.Flat.{piecesOf};
+use layout::Judgement;
+use libc::STDIN_FILENO;
+use libc::STDOUT_FILENO;
+use rules::Piece;
+use rules::ReadAnswer;
+use rules::Settings;
+
+// The numbers that a search starts with.
+fn numbers_of(settings: Settings) -> [u64; 6]
+    ensures { λ r. ⌜ r ≡ 0 ∷ 0 ∷ 0 ∷ settings .masks ∷ settings .weight ∷ settings .budget ∷ [] ⌝ }
+{
+    [
+        0,
+        0,
+        0,
+        settings.masks as u64,
+        settings.weight as u64,
+        settings.budget as u64,
+    ]
+}
+
+// Stages 3 to 5. Each answer is a number that the last stage made, so that no stage can be left out.
+fn first_stages(last: u32, settings: Settings, flat: &[u32; 2560], masks: &mut [u8]) -> u64
+    requires { ⌜ Valid settings (piecesOf (now flat) (length (now masks))) ⌝ }
+{
+    let n = masks.len();
+    let mut conflicts = [0u64; 4096];
+    let mut stitches = [0u64; 4096];
+    layout::adjacency_words(settings, flat, n, &mut conflicts, &mut stitches);
+    if last == 3 {
+        return conflicts[0];
+    }
+    let mut there = bitset::below(n);
+    let mut vertices = [0u32; 512];
+    let mut neighbours = [0u32; 512];
+    let removed = reduction::peel(
+        settings.masks,
+        &conflicts,
+        &stitches,
+        &mut there,
+        &mut vertices,
+        &mut neighbours,
+    );
+    if last == 4 {
+        return removed as u64;
+    }
+    let mut numbers = numbers_of(settings);
+    core_search::search_core(&conflicts, &stitches, &there, &mut numbers, masks)
+}
+
+// Stages 3 to 8, on a list of as many masks as there are pieces.
+fn run_stages(last: u32, settings: Settings, flat: &[u32; 2560], masks: &mut [u8]) -> u64
+    requires { ⌜ Valid settings (piecesOf (now flat) (length (now masks))) ⌝ }
+{
+    if last < 6 {
+        return first_stages(last, settings, flat, masks);
+    }
+    let result = decomposer::decompose(settings, flat, masks.len(), masks);
+    if last == 6 {
+        return result.steps as u64;
+    }
+    let mut buffer = [0u8; 4096];
+    let length = writer::write_result(&mut buffer, result, masks);
+    if last == 8 {
+        io::write_all(STDOUT_FILENO, &buffer[..length]);
+    }
+    length as u64
+}
+
+// Stages 2 to 8.
+fn judged_stages(last: u32, settings: Settings, pieces: [Piece; 512], count: usize) -> u64 {
+    if 512 < count {
+        return 0;
+    }
+    let mut flat = [0u32; 2560];
+    layout::flatten(pieces, count, &mut flat);
+    let judgement = layout::judge(settings, &flat, count);
+    if let Judgement::Refused(_, _) = judgement {
+        return 0;
+    }
+    if last == 2 {
+        return 1;
+    }
+    let mut masks = [0u8; 512];
+    run_stages(last, settings, &flat, &mut masks[..count])
+}
+
+// Every stage up to the last one.
+fn stages(last: u32, text: &[u8]) -> u64 {
+    if last == 0 {
+        return 0;
+    }
+    let read = text::read_layer(text);
+    let answer = read.answer;
+    if let ReadAnswer::Refused(_, _) = answer {
+        return 0;
+    }
+    if last == 1 {
+        return read.count as u64;
+    }
+    let pieces = read.pieces;
+    judged_stages(last, read.settings, pieces, read.count)
+}
+
+fn repeated(last: u32, repeats: u32, text: &[u8]) -> u64 {
+    let mut sum = 0u64;
+    for _ in 0..repeats {
+        sum = std::num::wrapping_add_u64(sum, stages(last, text));
+    }
+    sum
+}
+
+fn main() {
+    let mut input = io::large_buffer();
+    let n = io::read_full(STDIN_FILENO, &mut input);
+    let line = lines::read_line(&input[..n], b"stages=", 2);
+    let start = line.bytes;
+    if n < start {
+        return;
+    }
+    let last = line.values[0];
+    let repeats = line.values[1];
+    let sum = repeated(last, repeats, &input[start..n]);
+    io::write_all(STDOUT_FILENO, b"sum=");
+    io::print_decimal(STDOUT_FILENO, sum);
+    io::write_all(STDOUT_FILENO, b"\n");
+}
