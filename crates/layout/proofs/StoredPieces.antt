@@ -1,15 +1,16 @@
 -- Storing pieces as numbers: five stores put one piece in its place, and storing the next piece of a list makes the first n of it the
--- first n + 1. Assumes nothing.
+-- first n + 1. No other piece changes. Assumes nothing.
 use mathlib.Core.List.{List, [], _∷_, _++_}
-use mathlib.Core.Path.{_≡_, sym, ap₂, _∙_}
-use Prim.Native.Nat.{ℕ, _+_, _*_, _<_}
+use mathlib.Core.Path.{_≡_, refl, sym, ap₂, _∙_}
+use Prim.Native.Nat.{ℕ, _+_, _*_, _≤_, _<_}
 use native.Mathlib.Omega.{arith}
 use native.Mathlib.Numerals.{add-one}
 use lib.ListN.{length, getD, set, take, length-set}
 use lib.Seq.{getD-set-same, getD-set-other, take-suc, ext-getD}
 use Rattle.rules.specs.declared.layer.Piece.{Piece}
 use Rattle.rules.specs.Settings.{noPiece, pieceAt}
-use Rattle.layout.specs.Flat.{pieceOf, piecesOf, Stored}
+use Rattle.rules.specs.Basics.{upFrom}
+use Rattle.layout.specs.Flat.{pieceOf, piecesOf, Stored, FirstStored}
 use Rattle.layout.proofs.PieceLaws.{pieces-length, pieces-snoc, piece-of}
 
 -- ---- one piece
@@ -102,9 +103,17 @@ pieces-alike f g n h =
     let low : i < n = omega (arith, pieces-length f n) in
     piece-of f n i low ∙ h i low ∙ sym (piece-of g n i low)
 
+-- none yet
+pub none-stored : (ps : List Piece) (flat : List ℕ) → FirstStored 0 ps flat flat
+unfolding piecesOf upFrom
+none-stored ps flat = record { stored = refl; others = λ j l. refl }
+
 -- the next one
-pub next-stored : (ps : List Piece) (n : ℕ) (before after : List ℕ) → n < length ps → piecesOf before n ≡ take n ps → Stored n (pieceAt ps n) before after
-    → piecesOf after (n + 1) ≡ take (n + 1) ps
-next-stored ps n before after room first put =
-    rw (add-one n, pieces-snoc after n, take-suc ps n noPiece room)
-    (ap₂ (λ (xs : List Piece) (p : Piece). xs ++ (p ∷ [])) (pieces-alike after before n (λ i l. put .others i (λ e. omega arith)) ∙ first) (put .stored))
+pub next-stored : (ps : List Piece) (n : ℕ) {first before after : List ℕ} → n < length ps → FirstStored n ps first before → Stored n (pieceAt ps n) before after
+    → FirstStored (n + 1) ps first after
+next-stored ps n {first} {before} {after} room done put = record {
+  stored =
+      rw (add-one n, pieces-snoc after n, take-suc ps n noPiece room)
+      (ap₂ (λ (xs : List Piece) (p : Piece). xs ++ (p ∷ [])) (pieces-alike after before n (λ i l. put .others i (λ e. omega arith)) ∙ done .stored) (put .stored));
+  others = λ j l. put .others j (λ e. omega arith) ∙ done .others j (omega arith);
+}

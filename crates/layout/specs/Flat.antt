@@ -1,8 +1,8 @@
 -- Pieces as numbers, five to a piece: shape, X1, Y1, X2, Y2. Assumes nothing: these are definitions.
 use mathlib.Core.List.{List, map}
 use mathlib.Core.Path.{_≡_}
-use Prim.Native.Nat.{ℕ, _+_, _*_}
-use lib.ListN.{getD}
+use Prim.Native.Nat.{ℕ, _+_, _*_, _≤_}
+use lib.ListN.{getD, take}
 use Rattle.rules.specs.declared.layer.Piece.{Piece}
 use Rattle.rules.specs.Basics.{upTo}
 
@@ -24,3 +24,8 @@ piecesOf flat n = map (pieceOf flat) (upTo n)
 pub record Stored (i : ℕ) (p : Piece) (before after : List ℕ) : Type 0 where
   pub stored : pieceOf after i ≡ p
   pub others : (j : ℕ) → (j ≡ i → ⊥) → pieceOf after j ≡ pieceOf before j
+
+-- the numbers before and after the first n of some records were stored: every piece past them stays
+pub record FirstStored (n : ℕ) (records : List Piece) (before after : List ℕ) : Type 0 where
+  pub stored : piecesOf after n ≡ take n records
+  pub others : (j : ℕ) → n ≤ j → pieceOf after j ≡ pieceOf before j

@@ -1,8 +1,7 @@
 // Pieces as an array of numbers, five to a piece: read, stored, and taken from records.
 ghost use mathlib.Core.Path.{_≡_};
 ghost use Prim.Native.Nat.{_<_, _≤_};
-ghost use lib.ListN.{take};
-ghost use Rattle.layout.specs.Flat.{pieceOf, piecesOf, Stored};
+ghost use Rattle.layout.specs.Flat.{pieceOf, Stored, FirstStored};
 use rules::Piece;
 
 // The piece with number i.
@@ -37,7 +36,7 @@ pub fn put(flat: &mut [u32; 2560], i: usize, piece: Piece)
 // The numbers of the first records, for a caller that holds records by value.
 pub fn flatten(records: [Piece; 512], count: usize, flat: &mut [u32; 2560])
     requires { ⌜ count ≤ 512 ⌝ }
-    ensures { λ _. ⌜ piecesOf (now (flat .exit)) count ≡ take count records ⌝ }
+    ensures { λ _. ⌜ FirstStored count records (now (flat .entry)) (now (flat .exit)) ⌝ }
 {
     let mut i = 0;
     while i < count {

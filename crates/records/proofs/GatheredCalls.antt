@@ -4,7 +4,7 @@ use mathlib.Core.Bool.{Bool, true, false}
 use mathlib.Core.List.{List}
 use mathlib.Core.Logic.{⊎-elim}
 use mathlib.Core.Path.{_≡_, refl, subst, _∙_}
-use Prim.Native.Nat.{ℕ, _<_, min}
+use Prim.Native.Nat.{ℕ, _≤_, _<_, min}
 use native.Mathlib.Omega.{arith}
 use lib.Dec.{leb·zero}
 use lib.ListN.{length, take}
@@ -53,14 +53,13 @@ too-many s ps more = rw (lt-leb (length ps) 512 more, leb·zero (length ps)) (go
 
 -- ---- gathered records
 
--- the first ones are stored, up to 512
-pub first-stored : (ps : List Piece) (flat : List ℕ) {n i : ℕ} → n ≡ length ps → i ≡ min n 512 → piecesOf flat i ≡ take i ps → Gathered ps flat n
-first-stored ps flat {n} {i} count end stored = record {
-  count = count;
-  pieces = λ few. let all : i ≡ n = omega arith in rw all at stored ∙ take-all n ps (omega arith);
-}
+-- up to 512 all are stored
+all-stored : {ps : List Piece} {before after : List ℕ} {n : ℕ} → Gathered ps before after n → n ≤ 512 → piecesOf after n ≡ ps
+all-stored {ps} {before} {after} {n} gathered few =
+    let all : min n 512 ≡ n = omega arith in
+    rw all at (gathered .pieces .stored) ∙ take-all n ps (omega (arith, gathered .count))
 
-module _ (s : Settings) {ps : List Piece} {flat : List ℕ} {n : ℕ} (gathered : Gathered ps flat n) where
+module _ (s : Settings) {ps : List Piece} {before flat : List ℕ} {n : ℕ} (gathered : Gathered ps before flat n) where
   -- what holds of the numbers' pieces holds of the records, if it does where both are refused
   of-records : (P : List Piece → Type 0)
       → (judgeLayer s (piecesOf flat n) ≡ refused 4 Place.Nothing → judgeLayer s ps ≡ refused 4 Place.Nothing → P (piecesOf flat n) → P ps)
@@ -68,7 +67,7 @@ module _ (s : Settings) {ps : List Piece} {flat : List ℕ} {n : ℕ} (gathered 
   of-records P many =
       ⊎-elim
       (λ more. many (too-many s (piecesOf flat n) (omega (arith, pieces-length flat n))) (too-many s ps (omega (arith, gathered .count))))
-      (λ few. subst P (gathered .pieces few))
+      (λ few. subst P (all-stored gathered few))
       (lt-or-ge 512 n)
 
   pub scored : (masks : List ℕ) {o : Outcome Score} → Scored s masks o (piecesOf flat n) → Scored s masks o ps

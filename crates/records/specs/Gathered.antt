@@ -1,12 +1,12 @@
--- What is known of numbers that lent records were gathered into. Past 512 records the numbers are free, since the layer is refused for
--- their count.
+-- What lent records leave in the numbers that they are gathered into, where there are n of them: the first 512 are stored, and every piece past them
+-- stays. More than 512 are refused for their number, so that those left out are not missed.
 use mathlib.Core.List.{List}
 use mathlib.Core.Path.{_≡_}
-use Prim.Native.Nat.{ℕ, _≤_}
+use Prim.Native.Nat.{ℕ, min}
 use lib.ListN.{length}
 use Rattle.rules.specs.declared.layer.Piece.{Piece}
-use Rattle.layout.specs.Flat.{piecesOf}
+use Rattle.layout.specs.Flat.{FirstStored}
 
-pub record Gathered (ps : List Piece) (flat : List ℕ) (n : ℕ) : Type 0 where
+pub record Gathered (ps : List Piece) (before after : List ℕ) (n : ℕ) : Type 0 where
   pub count : n ≡ length ps
-  pub pieces : n ≤ 512 → piecesOf flat n ≡ ps
+  pub pieces : FirstStored (min n 512) ps before after

@@ -34,7 +34,7 @@ fn stored_of(n: usize) -> usize
 
 // Stores the first 512 records at most, and answers how many there are. More are refused for their number alone.
 pub fn gather(pieces: &[Piece], flat: &mut [u32; 2560]) -> usize
-    ensures { λ r. ⌜ Gathered (now (pieces .entry)) (now (flat .exit)) r ⌝ }
+    ensures { λ r. ⌜ Gathered (now (pieces .entry)) (now (flat .entry)) (now (flat .exit)) r ⌝ }
 {
     let n = count(pieces);
     let end = stored_of(n);

@@ -1,24 +1,22 @@
 -- `flatten`: the numbers of the records passed are stored. Assumes nothing.
 use borrow.Author.Needs.{needs}
 use native.Mathlib.Omega.{arith}
-use mathlib.Core.Path.{_≡_, refl}
+use mathlib.Core.Path.{_≡_}
 use Prim.Native.Nat.{_-_, _≤_}
-use lib.ListN.{length, take}
-use Rattle.layout.specs.Flat.{piecesOf}
-use Rattle.rules.specs.Basics.{upFrom}
-use Rattle.layout.proofs.StoredPieces.{next-stored}
+use lib.ListN.{length}
+use Rattle.layout.specs.Flat.{FirstStored}
+use Rattle.layout.proofs.StoredPieces.{none-stored, next-stored}
 use Rattle.layout.proofs.flat.flatten.Statement.{statement}
 use Rattle.layout.proofs.flat.flatten.Tie as tie
 
 abbrev Inv-loop : tie.InvT-loop
-Inv-loop count flat₀ records i₀ flat i = (i ≤ count) × (count ≤ length records) × (piecesOf flat i ≡ take i records)
+Inv-loop count flat₀ records i₀ flat i = (i ≤ count) × (count ≤ length records) × FirstStored i records flat₀ flat
 
 abbrev μ-loop : tie.MeasureT-loop
 μ-loop count flat₀ records i₀ flat i = count - i
 
 loop-holds : tie.Need-loop-holds Inv-loop μ-loop
-unfolding piecesOf upFrom
-loop-holds c = (omega arith, omega (arith, c .good .0 .1 .0 .1), refl)
+loop-holds c = (omega arith, omega (arith, c .good .0 .1 .0 .1), none-stored _ _)
 
 mul-put : tie.Need-mul-put Inv-loop μ-loop
 mul-put c = search needs
@@ -38,7 +36,7 @@ loop-less c = search needs
 loop-again : tie.Need-loop-again Inv-loop μ-loop
 loop-again c =
     let at = c .before .before .before .before in
-    (omega arith, at .loop .inv .1, next-stored _ (at .loop .i) _ _ (omega arith) (at .loop .inv .2) (c .put .ensures))
+    (omega arith, at .loop .inv .1, next-stored _ (at .loop .i) (omega arith) (at .loop .inv .2) (c .put .ensures))
 
 returns : tie.Need-returns Inv-loop μ-loop
 returns c =

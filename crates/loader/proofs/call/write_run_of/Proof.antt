@@ -24,7 +24,7 @@ write-run-requires : tie.Need-write-run-requires
 write-run-requires c κs =
     let given = c .before .before .before in
     let start = given .before .before .before in
-    (subst⁻¹ (Valid (start .args .settings)) (with-masks _ _ _ (start .pre .0) (given .flatten .ensures)) (start .pre .1 .0), start .pre .1 .1)
+    (subst⁻¹ (Valid (start .args .settings)) (with-masks _ _ _ (start .pre .0) (given .flatten .ensures .stored)) (start .pre .1 .0), start .pre .1 .1)
 
 same-length : tie.Need-same-length
 same-length c = search needs
@@ -34,7 +34,7 @@ returns c =
     let wrote = c .before .before .before in
     let given = wrote .before .before .before .before in
     let start = given .before .before .before in
-    subst (λ (ps : List Piece). Wrote (run (start .args .settings) ps) (start .args .buffer .now) (wrote .write-run .result) (wrote .write-run .last .1 .1 .1 .0)) (with-masks _ _ _ (start .pre .0) (given .flatten .ensures))
+    subst (λ (ps : List Piece). Wrote (run (start .args .settings) ps) (start .args .buffer .now) (wrote .write-run .result) (wrote .write-run .last .1 .1 .1 .0)) (with-masks _ _ _ (start .pre .0) (given .flatten .ensures .stored))
     (wrote .write-run .ensures)
 
 pub write-run-of-spec : {M : Type 1} → statement M

@@ -2,18 +2,16 @@
 mod Tie
 use borrow.Author.Needs.{needs}
 use native.Mathlib.Omega.{arith}
-use mathlib.Core.Path.{_≡_, refl}
+use mathlib.Core.Path.{_≡_, subst}
 use Prim.Native.Nat.{_-_, _≤_, min}
-use lib.ListN.{length, take}
-use Rattle.rules.specs.Basics.{upFrom}
-use Rattle.layout.specs.Flat.{piecesOf}
-use Rattle.layout.proofs.StoredPieces.{next-stored}
-use Rattle.records.proofs.GatheredCalls.{first-stored}
+use lib.ListN.{length}
+use Rattle.layout.specs.Flat.{FirstStored}
+use Rattle.layout.proofs.StoredPieces.{none-stored, next-stored}
 use Rattle.records.proofs.gathering.gather.Statement.{statement}
 use Rattle.records.proofs.gathering.gather.Proof.Tie as tie
 
 abbrev Inv-loop : tie.InvT-loop
-Inv-loop pieces flat₀ n end i₀ flat i = (n ≡ length pieces) × (end ≡ min n 512) × (i ≤ end) × (piecesOf flat i ≡ take i pieces)
+Inv-loop pieces flat₀ n end i₀ flat i = (n ≡ length pieces) × (end ≡ min n 512) × (i ≤ end) × FirstStored i pieces flat₀ flat
 
 abbrev μ-loop : tie.MeasureT-loop
 μ-loop pieces flat₀ n end i₀ flat i = end - i
@@ -25,8 +23,7 @@ stored-of-requires : tie.Need-stored-of-requires Inv-loop μ-loop
 stored-of-requires c κs = search needs
 
 loop-holds : tie.Need-loop-holds Inv-loop μ-loop
-unfolding piecesOf upFrom
-loop-holds c = (c .before .count .ensures, c .stored-of .ensures, omega arith, refl)
+loop-holds c = (c .before .count .ensures, c .stored-of .ensures, omega arith, none-stored _ _)
 
 piece-at-requires : tie.Need-piece-at-requires Inv-loop μ-loop
 piece-at-requires c κs = search needs
@@ -43,10 +40,13 @@ loop-less c = search needs
 loop-again : tie.Need-loop-again Inv-loop μ-loop
 loop-again c =
     let at = c .before .before .before .before in
-    (at .loop .inv .0, at .loop .inv .1, omega arith, next-stored _ (at .loop .i) _ _ (omega arith) (at .loop .inv .3) (rw (c .before .before .piece-at .ensures) at (c .put .ensures)))
+    (at .loop .inv .0, at .loop .inv .1, omega arith, next-stored _ (at .loop .i) (omega arith) (at .loop .inv .3) (rw (c .before .before .piece-at .ensures) at (c .put .ensures)))
 
 returns : tie.Need-returns Inv-loop μ-loop
-returns c = first-stored _ _ (c .before .loop .inv .0) (omega arith) (c .before .loop .inv .3)
+returns c =
+    let at = c .before .loop in
+    let end : at .i ≡ min (c .before .before .before .count .result) 512 = omega arith in
+    record { count = at .inv .0; pieces = rw end at (at .inv .3) }
 
 pub gather-spec : {M : Type 1} → statement M
 gather-spec =

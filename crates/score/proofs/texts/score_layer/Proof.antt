@@ -34,7 +34,7 @@ score-flat-requires c κs = search needs
 returns-2 : tie.Need-returns-2
 returns-2 c =
     let flattened = c .before .before in
-    score-read _ _ (layer (flattened .before .before .before)) _ (flattened .flatten .ensures) (c .score-flat .result) (c .score-flat .ensures)
+    score-read _ _ (layer (flattened .before .before .before)) _ (flattened .flatten .ensures .stored) (c .score-flat .result) (c .score-flat .ensures)
 
 pub score-layer-spec : {M : Type 1} → statement M
 score-layer-spec =

@@ -15,7 +15,7 @@ judge-overlaps-requires c κs = search needs
 
 -- what was judged, of the records
 as-records : (c : tie.After-judge-overlaps) → let a = c .before .before .before .before .args in judgement (c .judge-overlaps .result) ≡ judgeOverlaps (take (a .count) (a .records))
-as-records c = c .judge-overlaps .ensures ∙ ap judgeOverlaps (c .before .before .flatten .ensures)
+as-records c = c .judge-overlaps .ensures ∙ ap judgeOverlaps (c .before .before .flatten .ensures .stored)
 
 enum-told : tie.Need-enum-told
 enum-told c = search needs
