@@ -1,17 +1,25 @@
 -- Derivations of functions on lent records, written by tools/carry.
 pub mod CountKinds
 pub mod CountReads
+pub mod DecomposeCode
 pub mod DecomposeKinds
 pub mod DecomposeLts
 pub mod DecomposeReads
+pub mod DecomposeSteps
+pub mod GatherCode
 pub mod GatherKinds
 pub mod GatherLts
 pub mod GatherReads
+pub mod GatherSteps
 pub mod PieceAtKinds
 pub mod PieceAtReads
+pub mod ScoreCode
 pub mod ScoreKinds
 pub mod ScoreLts
 pub mod ScoreReads
+pub mod ScoreSteps
+pub mod WriteLayerCode
 pub mod WriteLayerKinds
 pub mod WriteLayerLts
 pub mod WriteLayerReads
+pub mod WriteLayerSteps

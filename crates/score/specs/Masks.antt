@@ -38,14 +38,14 @@ LineFound text MaskLine.Bad = NoMaskLine text
 
 -- ---- All lines
 
--- the text is the numbers' mask lines
+-- the text is the numbers' mask lines, and their masks stand at the front of the list; what the list has past them is free
 pub record AllStored (text masks : List ℕ) (count : ℕ) : Type 0 where
   pub numbers : List ℕ
   pub lines : text ≡ maskLines numbers
   pub inside : count ≤ length masks
   pub stored : take count masks ≡ masksOf (length masks) numbers
 
--- after the mask lines of some numbers the text goes on, with what is no mask line
+-- after the mask lines of some numbers the text goes on, with what is no mask line; what the list then has is free
 pub record BadLine (text : List ℕ) (line : ℕ) : Type 0 where
   pub numbers : List ℕ
   pub rest : List ℕ

@@ -40,7 +40,7 @@ fn read_all(fd: i32, buffer: &mut [u8]) -> FileRead
     }
 }
 
-// Reads the start of a file. Where that fails, standard error has the reason.
+// Reads the start of a file. Where that fails, standard error has the reason. Which bytes were read, no contract can say.
 pub fn read_file(path: &[u8], buffer: &mut [u8]) -> FileRead
     ensures { λ r. ⌜ Counts (r .bytes) (now (buffer .exit)) ⌝ }
 {

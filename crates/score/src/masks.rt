@@ -50,7 +50,7 @@ pub enum MasksRead {
     Bad(usize),
 }
 
-// Lines for which there is no room are judged for their form alone.
+// Stores the masks at the front of the list. Lines for which there is no room are judged for their form alone.
 pub fn read_masks(text: &[u8], masks: &mut [u8]) -> MasksRead
     ensures { λ r. ⌜ MasksFound (now (text .entry)) (now (masks .exit)) r ⌝ }
 {

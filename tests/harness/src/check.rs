@@ -174,13 +174,6 @@ mod tests {
 
     #[test]
     fn best_means_least() {
-        let piece = |shape| Piece {
-            shape,
-            x1: 0,
-            y1: 0,
-            x2: 1,
-            y2: 1,
-        };
         let layer = Layer {
             settings: Settings {
                 masks: 2,
@@ -189,7 +182,7 @@ mod tests {
                 weight: 7,
                 budget: 0,
             },
-            pieces: [0, 1, 2].map(piece).to_vec(),
+            pieces: [0, 1, 2].map(Piece::at_corner).to_vec(),
         };
         let mut checker = Checker::new(Subject::Wrong(Mutation::None));
         assert!(checker.least(&layer, 7).is_ok());

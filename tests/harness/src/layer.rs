@@ -18,6 +18,19 @@ pub struct Piece {
     pub y2: u64,
 }
 
+impl Piece {
+    /// The least square, at the corner of the layer.
+    pub fn at_corner(shape: u64) -> Piece {
+        Piece {
+            shape,
+            x1: 0,
+            y1: 0,
+            x2: 1,
+            y2: 1,
+        }
+    }
+}
+
 #[derive(Clone, Debug, PartialEq, Eq)]
 pub struct Layer {
     pub settings: Settings,

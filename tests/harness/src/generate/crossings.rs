@@ -1,11 +1,9 @@
 //! Bent wires that lie across each other, cut into pieces. A piece meets only the wires that cross
 //! it or come near it, so that changing masks between two pieces of a wire can pay.
 
-use super::settings;
+use super::{first_of, settings, shuffled_or_not};
 use crate::layer::{Layer, Piece};
 use crate::random::Random;
-
-const LAST: u64 = 1_000_000;
 
 /// What the wires of a layer have in common.
 struct Style {
@@ -35,12 +33,7 @@ pub fn crossings(random: &mut Random, count: usize) -> Layer {
         pieces.extend(wire(random, shape, &style));
         shape += 1;
     }
-    pieces.truncate(count);
-    pieces.retain(|piece| piece.x2 <= LAST && piece.y2 <= LAST);
-    if random.once_in(2) {
-        random.shuffle(&mut pieces);
-    }
-    Layer { settings, pieces }
+    shuffled_or_not(random, first_of(count, settings, pieces))
 }
 
 /// A wire of one to four pieces that goes right and up, or right and down. It never turns back, so

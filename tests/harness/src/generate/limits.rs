@@ -89,14 +89,7 @@ fn miscounted((stated, there): (u64, u64)) -> Vec<u8> {
 
 /// As many conflict edges as there can be: all pieces in one place.
 fn heap() -> Vec<Piece> {
-    let piece = |shape| Piece {
-        shape,
-        x1: 0,
-        y1: 0,
-        x2: 1,
-        y2: 1,
-    };
-    (0..512).map(piece).collect()
+    (0..512).map(Piece::at_corner).collect()
 }
 
 /// Stitch edges only: one shape in 16 rows of 32 cells.

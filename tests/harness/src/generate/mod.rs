@@ -9,7 +9,7 @@ mod made;
 mod tiles;
 mod wires;
 
-use crate::layer::{Layer, Settings};
+use crate::layer::{Layer, Piece, Settings};
 use crate::random::Random;
 pub use damage::damaged;
 pub use limits::at_limits;
@@ -24,6 +24,24 @@ pub fn any_layer(random: &mut Random, count: usize) -> Layer {
         2 => tiles::tiles(random, count),
         _ => crossings::crossings(random, count),
     }
+}
+
+/// The greatest coordinate.
+const LAST: u64 = 1_000_000;
+
+/// The layer of the first pieces, at most `count`, as far as the coordinates reach.
+fn first_of(count: usize, settings: Settings, mut pieces: Vec<Piece>) -> Layer {
+    pieces.truncate(count);
+    pieces.retain(|piece| piece.x2 <= LAST && piece.y2 <= LAST);
+    Layer { settings, pieces }
+}
+
+/// The layer with its pieces in their order, or in any other.
+fn shuffled_or_not(random: &mut Random, mut layer: Layer) -> Layer {
+    if random.once_in(2) {
+        random.shuffle(&mut layer.pieces);
+    }
+    layer
 }
 
 /// Sizes of result buffers: too small ones, the least that is allowed, and larger ones.

@@ -1,11 +1,9 @@
 //! Cells of an uneven grid, some of them empty, the others of few shapes. Neighbours of one shape
 //! touch along a length near the margin, others are as near as an empty cell lets them be.
 
-use super::settings;
+use super::{first_of, settings};
 use crate::layer::{Layer, Piece, Settings};
 use crate::random::Random;
-
-const LAST: u64 = 1_000_000;
 
 /// A layer of at most `count` pieces.
 pub fn tiles(random: &mut Random, count: usize) -> Layer {
@@ -31,9 +29,7 @@ pub fn tiles(random: &mut Random, count: usize) -> Layer {
         }
     }
     random.shuffle(&mut pieces);
-    pieces.truncate(count);
-    pieces.retain(|piece| piece.x2 <= LAST && piece.y2 <= LAST);
-    Layer { settings, pieces }
+    first_of(count, settings, pieces)
 }
 
 /// The side of a square of about so many cells.

@@ -1,10 +1,8 @@
 //! Rows of wires, each cut into pieces that touch along a length near the margin.
 
-use super::settings;
+use super::{first_of, settings, shuffled_or_not};
 use crate::layer::{Layer, Piece};
 use crate::random::Random;
-
-const LAST: u64 = 1_000_000;
 
 /// How a whole layer of rows is laid out.
 struct Style {
@@ -45,12 +43,7 @@ pub fn wires(random: &mut Random, count: usize) -> Layer {
         pieces.extend(wire);
         shape += 1;
     }
-    pieces.truncate(count);
-    pieces.retain(|piece| piece.x2 <= LAST && piece.y2 <= LAST);
-    if random.once_in(2) {
-        random.shuffle(&mut pieces);
-    }
-    Layer { settings, pieces }
+    shuffled_or_not(random, first_of(count, settings, pieces))
 }
 
 /// Dense, just below the spacing, at it, or sparse. Rows just below the spacing make neighbours of

@@ -1,4 +1,4 @@
--- `decompose`: the slice has as many records as it says. Assumes nothing.
+-- `decompose`: the slice has as many records as it says, and the call says the rest. Assumes nothing.
 mod Tie
 use mathlib.Core.Path.{sym}
 use lib.Seq.{length-take-le}
@@ -19,7 +19,7 @@ same-length : tie.Need-same-length
 same-length c = search needs
 
 returns : tie.Need-returns
-returns c = search needs
+returns c = let told = c .before .before .decompose .ensures in (told .0, (told .1 .0, told .1 .1))
 
 pub decompose-spec : {M : Type 1} → statement M
 decompose-spec = tie.close (tie.spec array-share-prefix-all slice-aggregate-decompose decompose-requires same-length returns)

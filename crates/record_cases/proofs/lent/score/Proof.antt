@@ -1,4 +1,4 @@
--- `score`: the slice has as many records as it says. Assumes nothing.
+-- `score`: the slice has as many records as it says, and the call says the rest. Assumes nothing.
 mod Tie
 use mathlib.Core.Path.{sym}
 use lib.Seq.{length-take-le}
@@ -16,7 +16,7 @@ score-requires : tie.Need-score-requires
 score-requires c κs = search needs
 
 returns : tie.Need-returns
-returns c = search needs
+returns c = c .score .ensures
 
 pub score-spec : {M : Type 1} → statement M
 score-spec = tie.close (tie.spec array-share-prefix-all slice-aggregate-score score-requires returns)

@@ -1,4 +1,4 @@
--- `write_layer`: the slice has as many records as it says. Assumes nothing.
+-- `write_layer`: the slice has as many records as it says, and the call says the rest. Assumes nothing.
 mod Tie
 use mathlib.Core.Path.{sym}
 use lib.Seq.{length-take-le}
@@ -19,7 +19,7 @@ same-length : tie.Need-same-length
 same-length c = search needs
 
 returns : tie.Need-returns
-returns c = search needs
+returns c = let told = c .before .before .write-layer .ensures in (told .0, told .1)
 
 pub write-layer-spec : {M : Type 1} → statement M
 write-layer-spec = tie.close (tie.spec array-share-prefix-all slice-aggregate-write-layer write-layer-requires same-length returns)

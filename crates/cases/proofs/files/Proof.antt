@@ -2,8 +2,8 @@
 use borrow.Author.Needs.{needs}
 use native.Mathlib.Omega.{arith}
 use Prim.Native.Nat.{_-_, _≤_}
-use Rattle.cases.proofs.files.files.Statement.{statement}
-use Rattle.cases.proofs.files.files.Tie as tie
+use Rattle.cases.proofs.files.Statement.{statement}
+use Rattle.cases.proofs.files.Tie as tie
 
 abbrev Inv-loop : tie.InvT-loop
 Inv-loop pairs k₀ k = (k ≤ pairs) × (pairs ≤ 9223372036854775807)

@@ -2,8 +2,8 @@
 use mathlib.Core.Path.{sym}
 use lib.Seq.{length-take-le}
 use borrow.Author.Needs.{needs}
-use Rattle.cases.proofs.files.compare.Statement.{statement}
-use Rattle.cases.proofs.files.compare.Tie as tie
+use Rattle.cases.proofs.compare.Statement.{statement}
+use Rattle.cases.proofs.compare.Tie as tie
 
 other-text-requires : tie.Need-other-text-requires
 other-text-requires c κs = search needs
