@@ -1,10 +1,11 @@
 /*
- * Tests hezgolt_decompose as include/hezgolt.h describes it.
+ * Tests hezgolt_decompose and hezgolt_decompose_stream as include/hezgolt.h describes them.
  *
- *     check FOLDER [few]
+ *     check FOLDER STREAMS [few [streams]]
  *
- * FOLDER has layer texts and their results, NAME.layer and NAME.result. With `few`, only some of the many texts that are made
- * of them are tried. It ends with status 0 and one line, or says what differs and ends with status 1.
+ * FOLDER has layer texts and their results, NAME.layer and NAME.result. STREAMS has streams, NAME.gds, their settings texts,
+ * NAME.settings, and their results. With `few`, only some of the many texts and streams that are made of them are tried, and
+ * with `streams` the second function alone. It ends with status 0 and one line, or says what differs and ends with status 1.
  */
 #include <fcntl.h>
 #include <stdarg.h>
@@ -49,40 +50,47 @@ void see_answer(const struct layer *layer, uint64_t answer, const uint8_t *resul
         fail("%s: another result text", layer->name);
 }
 
-static void see_refused(enum kind kind, const uint8_t *text, size_t size, uint64_t wanted)
+void see_refused(enum kind kind, const struct layer *layer, uint64_t wanted)
 {
     uint8_t result[HEZGOLT_RESULT_LEAST];
-    uint64_t answer = call(kind, text, size, result, sizeof result);
+    uint64_t answer = call(kind, layer, result, sizeof result);
 
     if (answer != wanted)
-        fail("answer %lu and not %lu for %lu bytes", (unsigned long)answer, (unsigned long)wanted, (unsigned long)size);
+        fail("answer %lu and not %lu for %lu bytes", (unsigned long)answer, (unsigned long)wanted, (unsigned long)layer->size);
 }
 
-/* Every text, in memory that lies in each way, with a buffer of just the size that is asked for. */
-static void check_stored(const struct layer *layers, size_t count)
+static void see_text_refused(enum kind kind, uint8_t *text, size_t size, uint64_t wanted)
+{
+    struct layer layer = {0};
+
+    layer.bytes = text;
+    layer.size = size;
+    see_refused(kind, &layer, wanted);
+}
+
+/* Every layer, in memory that lies in each way, with a buffer of just the size that is asked for. */
+void check_stored(const struct layer *layers, size_t count)
 {
     uint8_t result[HEZGOLT_RESULT_LEAST];
 
-    begin("stored");
     for (size_t i = 0; i < count; i++)
         for (int kind = 0; kind < KINDS; kind++)
-            see_answer(&layers[i], call((enum kind)kind, layers[i].bytes, layers[i].size, result, sizeof result), result);
+            see_answer(&layers[i], call((enum kind)kind, &layers[i], result, sizeof result), result);
 }
 
-/* Buffers of other sizes. One that is too small is refused first, whatever the text is. */
-static void check_rooms(const struct layer *layers, size_t count)
+/* Buffers of other sizes. One that is too small is refused first, whatever the layer is. */
+void check_rooms(const struct layer *layers, size_t count)
 {
     static const size_t rooms[] = {0, 1, HEZGOLT_RESULT_LEAST - 1, HEZGOLT_RESULT_LEAST + 1, 10000};
     uint8_t result[HEZGOLT_RESULT_LEAST];
 
-    begin("rooms");
     for (size_t i = 0; i < count * 5; i++) {
         struct layer layer = layers[i / 5];
         size_t room = rooms[i % 5];
         enum kind kind = (enum kind)((i / 5 + i) % KINDS);
         if (room < HEZGOLT_RESULT_LEAST)
             layer.answer = HEZGOLT_REFUSED;
-        see_answer(&layer, call(kind, layer.bytes, layer.size, result, room), result);
+        see_answer(&layer, call(kind, &layer, result, room), result);
     }
 }
 
@@ -98,7 +106,7 @@ static void check_bytes(void)
         size_t size = sizes[i / 5];
         memset(text, values[i % 5], LONG_TEXT);
         for (int kind = 0; kind < KINDS; kind++)
-            see_refused((enum kind)kind, text, size, size > HEZGOLT_LAYER_MOST ? 20000 : 30001);
+            see_text_refused((enum kind)kind, text, size, size > HEZGOLT_LAYER_MOST ? 20000 : 30001);
     }
     free(text);
 }
@@ -114,20 +122,20 @@ static void check_limits(const struct layer *example)
         enum kind kind = (enum kind)(i / 3);
         memset(text, after[i % 3], HEZGOLT_LAYER_MOST + 1);
         memcpy(text, example->bytes, example->size);
-        see_refused(kind, text, HEZGOLT_LAYER_MOST, 30000 + lines(example->bytes, example->size) + 1);
-        see_refused(kind, text, HEZGOLT_LAYER_MOST + 1, 20000);
+        see_text_refused(kind, text, HEZGOLT_LAYER_MOST, 30000 + lines(example->bytes, example->size) + 1);
+        see_text_refused(kind, text, HEZGOLT_LAYER_MOST + 1, 20000);
         memset(text, '7', HEZGOLT_LAYER_MOST);
         memcpy(text, "masks=", 6);
-        see_refused(kind, text, HEZGOLT_LAYER_MOST, 30001);
+        see_text_refused(kind, text, HEZGOLT_LAYER_MOST, 30001);
         text[HEZGOLT_LAYER_MOST - 1] = '\n';
-        see_refused(kind, text, HEZGOLT_LAYER_MOST, 40001);
-        see_refused(kind, text, HEZGOLT_LAYER_MOST + 1, 20000);
+        see_text_refused(kind, text, HEZGOLT_LAYER_MOST, 40001);
+        see_text_refused(kind, text, HEZGOLT_LAYER_MOST + 1, 20000);
     }
     free(text);
 }
 
 /* The same numbers in every run (xorshift). */
-static uint32_t drawn(uint32_t *state)
+uint32_t drawn(uint32_t *state)
 {
     *state ^= *state << 13;
     *state ^= *state >> 17;
@@ -153,7 +161,7 @@ static void check_random(const struct layer *example, int few)
             text[kept + j] = (uint8_t)(drawn(&state) >> 16);
         /* No key begins with this byte. */
         text[kept] |= 0x80;
-        see_refused((enum kind)(i % KINDS), text, kept + size, 30000 + lines(text, kept) + 1);
+        see_text_refused((enum kind)(i % KINDS), text, kept + size, 30000 + lines(text, kept) + 1);
     }
     free(text);
 }
@@ -167,11 +175,11 @@ static void check_prefixes(const struct layer *layers, size_t count, size_t most
         if (layer->answer >= HEZGOLT_REFUSED && layer->answer / HEZGOLT_REFUSED != 6)
             continue;
         for (size_t size = 0; size < layer->size; size += 1 + (layer->size - 1) / most)
-            see_refused((enum kind)(size % KINDS), layer->bytes, size, 30000 + lines(layer->bytes, size) + 1);
+            see_text_refused((enum kind)(size % KINDS), layer->bytes, size, 30000 + lines(layer->bytes, size) + 1);
     }
 }
 
-static int is_digit(uint8_t byte)
+int is_digit(uint8_t byte)
 {
     return byte >= '0' && byte <= '9';
 }
@@ -205,8 +213,11 @@ static void check_changes(const struct layer *example, int few)
 {
     uint8_t result[HEZGOLT_RESULT_LEAST];
     uint8_t *text = reserve(example->size);
+    struct layer layer = {0};
 
     begin("changes");
+    layer.bytes = text;
+    layer.size = example->size;
     for (size_t i = 0; i < example->size * 256; i++) {
         size_t place = i / 256;
         uint8_t value = (uint8_t)(i % 256);
@@ -214,35 +225,82 @@ static void check_changes(const struct layer *example, int few)
             continue;
         memcpy(text, example->bytes, example->size);
         text[place] = value;
-        see_change(example, place, value, call((enum kind)(i % KINDS), text, example->size, result, sizeof result));
+        see_change(example, place, value, call((enum kind)(i % KINDS), &layer, result, sizeof result));
     }
     free(text);
 }
 
-static void check_all(const char *folder, int few)
+/* The layer of RULES 9. */
+static struct layer example_layer(void)
+{
+    return layer_of("example",
+                    "masks=2\nspacing=80\nmargin=10\nweight=10\nbudget=100\npieces=3\n"
+                    "piece=0,0,0,20,20\npiece=1,40,0,60,20\npiece=2,80,0,100,20\n",
+                    "verdict=best\nconflicts=1\nstitches=0\ncost=10\nsteps=5\nmask=0\nmask=1\nmask=0\n");
+}
+
+/* All of the first function but threads. */
+static void check_layers(const struct layer *example, const struct layer *layers, size_t count, int few)
+{
+    begin("stored");
+    check_stored(example, 1);
+    check_stored(layers, count);
+    begin("rooms");
+    check_rooms(layers, count);
+    check_bytes();
+    check_limits(example);
+    check_random(example, few);
+    check_prefixes(example, 1, example->size);
+    check_prefixes(layers, count, few ? 10 : 2000);
+    check_changes(example, few);
+}
+
+/* The stored streams, and one of each stored layer that has one. */
+static struct layer *all_streams(const char *folder, const struct layer *layers, size_t layers_count, size_t *count)
+{
+    size_t stored;
+    struct layer *from = stored_layers(folder, ".gds", &stored);
+    struct layer *all = reserve((stored + layers_count) * sizeof *all);
+
+    memcpy(all, from, stored * sizeof *all);
+    free(from);
+    if (stored < 90)
+        fail("%lu stored streams", (unsigned long)stored);
+    *count = stored;
+    for (size_t i = 0; i < layers_count; i++)
+        if (has_stream(&layers[i]))
+            all[(*count)++] = stream_of(&layers[i]);
+    return all;
+}
+
+static void check_all(const char *folder, const char *streams_folder, int few, int streams_only)
 {
     struct layer example = example_layer();
-    size_t count;
-    struct layer *layers = stored_layers(folder, &count);
+    size_t count, streams_count;
+    struct layer *layers = stored_layers(folder, ".layer", &count);
+    struct layer *streams = all_streams(streams_folder, layers, count, &streams_count);
 
     if (count < 100)
         fail("%lu stored layers", (unsigned long)count);
-    check_stored(&example, 1);
-    check_stored(layers, count);
-    check_rooms(layers, count);
-    check_bytes();
-    check_limits(&example);
-    check_random(&example, few);
-    check_prefixes(&example, 1, example.size);
-    check_prefixes(layers, count, few ? 10 : 2000);
-    check_changes(&example, few);
-    check_stack(few);
-    check_threads(layers, count);
-    for (size_t i = 0; i < count; i++)
-        free_layer(&layers[i]);
+    if (!streams_only) {
+        check_layers(&example, layers, count, few);
+        begin("stack");
+        check_stack(few, 0);
+        begin("threads");
+        check_threads(layers, count);
+    }
+    check_streams(&example, streams, streams_count, few);
+    begin("stream-stack");
+    check_stack(few, 1);
+    begin("stream-threads");
+    check_threads(streams, streams_count);
+    free_layers(layers, count);
+    free_layers(streams, streams_count);
+    free_layers(&example, 1);
     free(layers);
-    free_layer(&example);
-    printf("check: %lu stored layers and %lu calls are as hezgolt.h says\n", (unsigned long)count, calls());
+    free(streams);
+    printf("check: %lu stored layers, %lu streams and %lu calls are as hezgolt.h says\n", (unsigned long)count,
+           (unsigned long)streams_count, calls());
 }
 
 static void share_subject(void)
@@ -260,19 +318,20 @@ static void share_subject(void)
 /* A fault, at a fence or at the end of a stack, ends the process that makes the calls, and is told by the other one. */
 int main(int argc, char **argv)
 {
-    int few = argc == 3 && strcmp(argv[2], "few") == 0;
+    int few = argc >= 4 && strcmp(argv[3], "few") == 0;
+    int streams_only = few && argc == 5 && strcmp(argv[4], "streams") == 0;
     int status = 0;
     pid_t worker;
 
-    if (argc != 2 && !few) {
-        fputs("usage: check FOLDER [few]\n", stderr);
+    if (argc != 3 && !(argc == 4 && few) && !streams_only) {
+        fputs("usage: check FOLDER STREAMS [few [streams]]\n", stderr);
         return 2;
     }
     share_subject();
     begin("start");
     worker = fork();
     if (worker == 0) {
-        check_all(argv[1], few);
+        check_all(argv[1], argv[2], few, streams_only);
         return 0;
     }
     if (worker < 0 || waitpid(worker, &status, 0) != worker)

@@ -1,4 +1,4 @@
-/* Layers and their results: stored ones, the example of RULES 9, and made ones of 512 pieces. */
+/* Layers and their results: stored ones, and made ones of 512 pieces. */
 #include <dirent.h>
 #include <stdio.h>
 #include <stdlib.h>
@@ -9,18 +9,6 @@
 #define STORED_MOST 1000
 #define FILE_MOST 100000
 #define PIECES 512
-
-static const char EXAMPLE[] =
-    "masks=2\nspacing=80\nmargin=10\nweight=10\nbudget=100\npieces=3\n"
-    "piece=0,0,0,20,20\npiece=1,40,0,60,20\npiece=2,80,0,100,20\n";
-static const char EXAMPLE_RESULT[] =
-    "verdict=best\nconflicts=1\nstitches=0\ncost=10\nsteps=5\nmask=0\nmask=1\nmask=0\n";
-
-/* A heap block of just the bytes of a text, so that reading past them can be noticed. */
-static uint8_t *copied(const void *bytes, size_t size)
-{
-    return memcpy(reserve(size), bytes, size);
-}
 
 static uint8_t *read_file(const char *folder, const char *name, const char *ending, size_t *size)
 {
@@ -39,7 +27,8 @@ static uint8_t *read_file(const char *folder, const char *name, const char *endi
     return copied(bytes, *size);
 }
 
-static struct layer stored_layer(const char *folder, const char *name)
+/* A stream has its settings beside it. */
+static struct layer stored_layer(const char *folder, const char *name, const char *ending)
 {
     struct layer layer = {0};
     char refusal[32] = {0};
@@ -47,7 +36,9 @@ static struct layer stored_layer(const char *folder, const char *name)
     size_t size;
 
     snprintf(layer.name, sizeof layer.name, "%s", name);
-    layer.bytes = read_file(folder, name, ".layer", &layer.size);
+    layer.bytes = read_file(folder, name, ending, &layer.size);
+    if (strcmp(ending, ".layer") != 0)
+        layer.settings = read_file(folder, name, ".settings", &layer.settings_size);
     layer.result = read_file(folder, name, ".result", &size);
     layer.answer = size;
     memcpy(refusal, layer.result, size < sizeof refusal ? size : sizeof refusal - 1);
@@ -61,7 +52,7 @@ static int by_name(const void *left, const void *right)
     return strcmp(((const struct layer *)left)->name, ((const struct layer *)right)->name);
 }
 
-struct layer *stored_layers(const char *folder, size_t *count)
+struct layer *stored_layers(const char *folder, const char *wanted, size_t *count)
 {
     struct layer *layers = reserve(STORED_MOST * sizeof *layers);
     DIR *open = opendir(folder);
@@ -73,25 +64,28 @@ struct layer *stored_layers(const char *folder, size_t *count)
     while ((entry = readdir(open)) != NULL) {
         char name[64] = {0};
         char *ending = strrchr(entry->d_name, '.');
-        if (ending == NULL || strcmp(ending, ".layer") != 0)
+        if (ending == NULL || strcmp(ending, wanted) != 0)
             continue;
         if ((size_t)(ending - entry->d_name) >= sizeof name || *count == STORED_MOST)
             fail("%s: too long a name, or too many layers", entry->d_name);
         memcpy(name, entry->d_name, (size_t)(ending - entry->d_name));
-        layers[(*count)++] = stored_layer(folder, name);
+        layers[(*count)++] = stored_layer(folder, name, wanted);
     }
     closedir(open);
     qsort(layers, *count, sizeof *layers, by_name);
     return layers;
 }
 
-void free_layer(struct layer *layer)
+void free_layers(struct layer *layers, size_t count)
 {
-    free(layer->bytes);
-    free(layer->result);
+    for (size_t i = 0; i < count; i++) {
+        free(layers[i].bytes);
+        free(layers[i].settings);
+        free(layers[i].result);
+    }
 }
 
-static struct layer layer_of(const char *name, const char *text, const char *result)
+struct layer layer_of(const char *name, const char *text, const char *result)
 {
     struct layer layer = {0};
 
@@ -101,11 +95,6 @@ static struct layer layer_of(const char *name, const char *text, const char *res
     layer.answer = strlen(result);
     layer.result = copied(result, layer.answer);
     return layer;
-}
-
-struct layer example_layer(void)
-{
-    return layer_of("example", EXAMPLE, EXAMPLE_RESULT);
 }
 
 struct piece {

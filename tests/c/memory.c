@@ -49,12 +49,10 @@ void *reserve(size_t size)
     return block;
 }
 
-size_t lines(const uint8_t *text, size_t size)
+/* A heap block of just these bytes, so that reading past them can be noticed. */
+uint8_t *copied(const void *bytes, size_t size)
 {
-    size_t count = 0;
-    for (size_t i = 0; i < size; i++)
-        count += text[i] == '\n';
-    return count;
+    return memcpy(reserve(size), bytes, size);
 }
 
 /* Pages of zeros for `size` bytes, between two that cannot be touched. */
@@ -132,62 +130,54 @@ static void see_pattern(const struct area *area, size_t used, int turn, const ch
             fail("%s: byte %ld of %lu was changed", what, (long)i - (long)first, (unsigned long)area->size);
 }
 
-/* A layer between fences is sealed during the call, so that even a byte written as it was is noticed. */
+/* What is between fences and only to be read is sealed during the call, so that even a byte written as it was is noticed. */
 static void seal(const struct area *area, int access)
 {
     if (area->pages != NULL && mprotect(area->block, area->block_size, access) != 0)
         fail("no access to pages");
 }
 
-/* What hezgolt.h says of a length, given the layer text. */
-static void see_length(uint64_t length, const uint8_t *layer, size_t size, const uint8_t *result)
+static void lend(struct area *area, const uint8_t *bytes, int turn)
 {
-    if (length < 51 || length > HEZGOLT_RESULT_LEAST)
-        fail("a length of %lu", (unsigned long)length);
-    if (memcmp(result, "verdict=", 8) != 0 || result[length - 1] != '\n')
-        fail("a result text that does not begin or end as one");
-    /* Six lines and the pieces; five lines and their masks. */
-    if (lines(result, length) + 1 != lines(layer, size))
-        fail("%lu lines for a layer of %lu", (unsigned long)lines(result, length), (unsigned long)lines(layer, size));
+    fill(area, turn);
+    memcpy(area->start, bytes, area->size);
+    seal(area, PROT_READ);
 }
 
-/* What it says of a refusal: whether the number can be, and the place. */
-static void see_refusal(uint64_t answer, const uint8_t *layer, size_t size, size_t room)
+static void take_back(const struct area *area, const uint8_t *bytes, int turn, const char *what)
 {
-    uint64_t number = answer / HEZGOLT_REFUSED;
-    uint64_t place = answer % HEZGOLT_REFUSED;
-    uint64_t due = room < HEZGOLT_RESULT_LEAST ? 1 : size > HEZGOLT_LAYER_MOST ? 2 : 0;
+    seal(area, PROT_READ | PROT_WRITE);
+    see_pattern(area, area->size, turn, what);
+    if (memcmp(area->start, bytes, area->size) != 0)
+        fail("the %s was changed", what);
+}
 
-    if (due != 0 ? answer != due * HEZGOLT_REFUSED : number < 3 || number > 6)
-        fail("refusal %lu for %lu bytes and room for %lu", (unsigned long)answer, (unsigned long)size, (unsigned long)room);
-    if (number >= 3 && number <= 5 && (place < 1 || place > lines(layer, size) + 1))
-        fail("refusal %lu in a text of %lu lines", (unsigned long)answer, (unsigned long)lines(layer, size));
-    if (number == 6 && (place < 1 || place + 6 >= lines(layer, size)))
-        fail("refusal %lu in a text of %lu lines", (unsigned long)answer, (unsigned long)lines(layer, size));
+static uint64_t answer_of(const struct layer *layer, struct area *result)
+{
+    if (layer->settings == NULL)
+        return hezgolt_decompose(layer->bytes, layer->size, result->start, result->size);
+    return hezgolt_decompose_stream(layer->settings, layer->settings_size, layer->bytes, layer->size, result->start,
+                                    result->size);
 }
 
 /* One call, and all that can be seen of it whatever the layer is. */
-static uint64_t call_once(const uint8_t *layer, size_t size, struct area *result, int turn)
+static uint64_t call_once(const struct layer *layer, struct area *result, int turn)
 {
     uint64_t answer;
     int kept;
 
     fill(result, turn);
     errno = ERRNO_KEPT;
-    answer = hezgolt_decompose(layer, size, result->start, result->size);
+    answer = answer_of(layer, result);
     kept = errno;
     count_call();
     if (kept != ERRNO_KEPT)
         fail("errno was changed");
-    if (answer < HEZGOLT_REFUSED) {
-        if (result->size < HEZGOLT_RESULT_LEAST || size > HEZGOLT_LAYER_MOST)
-            fail("no refusal for %lu bytes and room for %lu", (unsigned long)size, (unsigned long)result->size);
-        see_length(answer, layer, size, result->start);
+    see_possible(layer, answer, result->start, result->size);
+    if (answer < HEZGOLT_REFUSED)
         see_pattern(result, answer, turn, "result");
-    } else {
-        see_refusal(answer, layer, size, result->size);
+    else
         see_pattern(result, 0, turn, "result of a refusal");
-    }
     return answer;
 }
 
@@ -198,38 +188,44 @@ static void copy_result(uint8_t *copy, uint64_t answer, const struct area *resul
 }
 
 /* A call on a layer that others may read too. `result` has room for 4,096 bytes. */
-uint64_t call_shared(const uint8_t *layer, size_t size, uint8_t *result)
+uint64_t call_shared(const struct layer *layer, uint8_t *result)
 {
     struct area area = make_area(GUARDED, HEZGOLT_RESULT_LEAST);
-    uint64_t answer = call_once(layer, size, &area, 0);
+    uint64_t answer = call_once(layer, &area, 0);
 
     copy_result(result, answer, &area);
     free_area(&area);
     return answer;
 }
 
-/* Two calls on a copy of the text, and on a buffer of `room` bytes whose contents differ. They must agree. */
-uint64_t call(enum kind kind, const uint8_t *text, size_t size, uint8_t *result, size_t room)
+/* Two calls on a copy of the layer, and on a buffer of `room` bytes whose contents differ. They must agree. */
+uint64_t call(enum kind kind, const struct layer *layer, uint8_t *result, size_t room)
 {
-    struct area layer = make_area(kind, size);
+    struct area bytes = make_area(kind, layer->size);
+    struct area settings = {0};
     struct area area = make_area(kind, room);
+    struct layer lent = *layer;
     uint64_t answers[2];
 
+    if (layer->settings != NULL)
+        settings = make_area(kind, layer->settings_size);
+    lent.bytes = bytes.start;
+    lent.settings = settings.start;
     for (int turn = 0; turn < 2; turn++) {
-        fill(&layer, turn);
-        memcpy(layer.start, text, size);
-        seal(&layer, PROT_READ);
-        answers[turn] = call_once(layer.start, size, &area, turn);
-        seal(&layer, PROT_READ | PROT_WRITE);
-        see_pattern(&layer, size, turn, "layer");
-        if (memcmp(layer.start, text, size) != 0)
-            fail("the layer text was changed");
+        lend(&bytes, layer->bytes, turn);
+        if (layer->settings != NULL)
+            lend(&settings, layer->settings, turn);
+        answers[turn] = call_once(&lent, &area, turn);
+        take_back(&bytes, layer->bytes, turn, layer->settings == NULL ? "layer text" : "stream");
+        if (layer->settings != NULL)
+            take_back(&settings, layer->settings, turn, "settings text");
         if (turn == 0)
             copy_result(result, answers[0], &area);
     }
     if (answers[0] != answers[1] || (answers[0] < HEZGOLT_REFUSED && memcmp(result, area.start, answers[0]) != 0))
-        fail("two calls on one text differ");
-    free_area(&layer);
+        fail("two calls on one layer differ");
+    free_area(&bytes);
+    free_area(&settings);
     free_area(&area);
     return answers[0];
 }

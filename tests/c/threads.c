@@ -29,8 +29,7 @@ static void *run_task(void *argument)
     for (size_t i = 0; i < task->count; i++) {
         const struct layer *layer = &task->layers[(task->first + i) % task->count];
         see_answer(layer,
-                   task->shared ? call_shared(layer->bytes, layer->size, result)
-                                : call(task->kind, layer->bytes, layer->size, result, HEZGOLT_RESULT_LEAST),
+                   task->shared ? call_shared(layer, result) : call(task->kind, layer, result, HEZGOLT_RESULT_LEAST),
                    result);
     }
     free(result);
@@ -50,27 +49,28 @@ static pthread_t start(struct task *task)
     return thread;
 }
 
-void check_stack(int few)
+/* Layers of 512 pieces that are searched to the last one, as texts or as streams. */
+void check_stack(int few, int streams)
 {
-    struct layer layers[5];
-    struct task task = {layers, 5, 0, GUARDED, 0, NULL};
+    struct layer layers[10];
+    struct task task = {streams ? layers + 5 : layers, 5, 0, GUARDED, 0, NULL};
     unsigned budget = few ? 2000 : 200000;
 
-    begin("stack");
     layers[0] = ring_layer(2);
     layers[1] = ring_layer(8);
     layers[2] = clique_layer(2, budget);
     layers[3] = clique_layer(8, budget);
     layers[4] = clique_layer(4, 0);
+    for (size_t i = 0; i < 5; i++)
+        layers[5 + i] = stream_of(&layers[i]);
     for (int kind = 0; kind < KINDS; kind++) {
         task.kind = (enum kind)kind;
         pthread_join(start(&task), NULL);
     }
-    for (size_t i = 0; i < 5; i++)
-        free_layer(&layers[i]);
+    free_layers(layers, 10);
 }
 
-/* All threads at once over the same layer texts. In the second round each begins with another one. */
+/* All threads at once over the same layers. In the second round each begins with another one. */
 static void run_threads(const struct layer *layers, size_t count, int apart)
 {
     struct task tasks[THREADS];
@@ -88,19 +88,35 @@ static void run_threads(const struct layer *layers, size_t count, int apart)
     pthread_barrier_destroy(&together);
 }
 
+/* A copy of what is lent to be read. */
+static uint8_t *kept(const uint8_t *bytes, size_t size)
+{
+    return bytes == NULL ? NULL : copied(bytes, size);
+}
+
+static void see_kept(const struct layer *layer, uint8_t *bytes, uint8_t *settings)
+{
+    if (memcmp(bytes, layer->bytes, layer->size) != 0)
+        fail("%s: the bytes were changed", layer->name);
+    if (settings != NULL && memcmp(settings, layer->settings, layer->settings_size) != 0)
+        fail("%s: the settings text was changed", layer->name);
+    free(bytes);
+    free(settings);
+}
+
 void check_threads(const struct layer *layers, size_t count)
 {
-    uint8_t **kept = reserve(count * sizeof *kept);
+    uint8_t **bytes = reserve(count * sizeof *bytes);
+    uint8_t **settings = reserve(count * sizeof *settings);
 
-    begin("threads");
-    for (size_t i = 0; i < count; i++)
-        kept[i] = memcpy(reserve(layers[i].size), layers[i].bytes, layers[i].size);
+    for (size_t i = 0; i < count; i++) {
+        bytes[i] = kept(layers[i].bytes, layers[i].size);
+        settings[i] = kept(layers[i].settings, layers[i].settings_size);
+    }
     run_threads(layers, count, 0);
     run_threads(layers, count, 1);
-    for (size_t i = 0; i < count; i++) {
-        if (memcmp(kept[i], layers[i].bytes, layers[i].size) != 0)
-            fail("%s: the layer text was changed", layers[i].name);
-        free(kept[i]);
-    }
-    free(kept);
+    for (size_t i = 0; i < count; i++)
+        see_kept(&layers[i], bytes[i], settings[i]);
+    free(bytes);
+    free(settings);
 }

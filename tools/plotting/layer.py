@@ -93,6 +93,13 @@ def read_layer(name, data):
     return Layer(Settings(*values), pieces)
 
 
+def write_layer(layer):
+    """The text that states the layer (RULES 9)."""
+    lines = [f"{key}={value}" for key, value in layer.settings._asdict().items()] + [f"pieces={len(layer.pieces)}"]
+    lines += ["piece=" + ",".join(map(str, piece)) for piece in layer.pieces]
+    return "".join(line + "\n" for line in lines).encode()
+
+
 def read_result(name, data):
     """The result that the text states (RULES 10)."""
     if REFUSED.fullmatch(data):

@@ -3,8 +3,10 @@
 use mathlib.Core.Path.{refl}
 use Rattle.rules.specs.Demands.{Assignment, Demand1}
 use Rattle.rules.proofs.Calls.{settings-end, edge-ends, score-ends, decompose-ends, write-ends, load-ends}
+use Rattle.stream_theory.proofs.StreamCalls.{load-stream-ends}
 use Rattle.rules.proofs.Outcomes.{ends-map}
 use Rattle.rules.proofs.Reading.{read-ends}
+use Rattle.stream_theory.proofs.StreamReading.{stream-ends}
 use Rattle.rules.proofs.Validity.{sound-valid, valid-sound}
 use Rattle.text.proofs.LayerSizes.{layer-length}
 use Rattle.theory.proofs.Demand3.{one-run}
@@ -17,8 +19,10 @@ demand1 = record {
   score = score-ends;
   decompose = decompose-ends (λ s ps r. Assignment s ps (r .masks)) (λ s ps valid. one-run s ps valid .whole);
   read = λ text. ends-map (λ l f. sound-valid (l .settings) (l .pieces) f) (read-ends text);
+  stream = λ settings stream. ends-map (λ l f. sound-valid (l .settings) (l .pieces) f) (stream-ends settings stream);
   write = write-ends (λ s ps valid. layer-length s ps (valid-sound s ps valid));
   load = load-ends result-fits;
+  loadStream = load-stream-ends result-fits;
   masksKept = λ number place masks. refl;
   bufferKept = λ number place buffer. refl;
 }

@@ -67,7 +67,7 @@ pub fn pieces_overlap(a: Piece, b: Piece) -> bool
 }
 
 // Questions 4 and 5 of the first n pieces.
-fn judge_pieces(flat: &[u32; 2560], n: usize) -> Judgement
+pub fn judge_pieces(flat: &[u32; 2560], n: usize) -> Judgement
     requires { ⌜ n ≤ 512 ⌝ }
     ensures { λ r. ⌜ judgement r ≡ askEach (λ i. judgePiece (Place.Piece i) (pieceOf (now (flat .entry)) i)) n ⌝ }
 {

@@ -15,3 +15,4 @@ pub use judging::Judgement;
 pub use judging::judge;
 pub use judging::judge_overlaps;
 pub use judging::judge_piece;
+pub use judging::judge_pieces;

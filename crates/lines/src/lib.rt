@@ -4,6 +4,8 @@ mod numerals;
 mod read;
 mod write;
 
+pub use numerals::Numeral;
+pub use numerals::read_numeral;
 pub use read::Line;
 pub use read::read_line;
 pub use write::write_bytes;

@@ -1,14 +1,16 @@
-// A layer text decomposed: the questions in their order, then the run, then its text.
+// A layer text, or a settings text and a stream, decomposed: the questions in their order, then the run, then its text.
 ghost use mathlib.Core.Path.{_≡_};
 ghost use Prim.Native.Nat.{_≤_};
 ghost use lib.ListN.{length, take};
 ghost use Rattle.rules.specs.Answers.{lengthOf, writeAnswer};
-ghost use Rattle.rules.specs.Calls.{decomposeText, bufferAfter};
+ghost use Rattle.rules.specs.Calls.{decomposeRead, decomposeText, decomposeStream, bufferAfter};
 ghost use Rattle.rules.specs.Decomposition.{run};
-ghost use Rattle.rules.specs.Demands.{Demand3OfText};
+ghost use Rattle.rules.specs.Demands.{Demand3OfText, Demand3OfStream};
 ghost use Rattle.rules.specs.Questions.{Valid};
 ghost use Rattle.layout.specs.Flat.{piecesOf};
+ghost use Rattle.loader.specs.Read.{outcomeOf, Judged};
 ghost use Rattle.loader.specs.Written.{Wrote};
+use rules::LayerRead;
 use rules::Piece;
 use rules::Place;
 use rules::ReadAnswer;
@@ -39,20 +41,38 @@ fn write_run_of(settings: Settings, records: [Piece; 512], count: usize, buffer:
     write_run(settings, &flat, &mut masks[..count], buffer)
 }
 
-// The result text of the layer that a text states, or the first of the refusals 1 to 6 and the buffer as it was.
-pub fn decompose_text(text: &[u8], buffer: &mut [u8]) -> WriteAnswer
-    ensures { λ r. ⌜ writeAnswer r ≡ lengthOf (decomposeText (now (text .entry)) (now (buffer .entry))) ⌝ }
-    ensures { λ _. ⌜ now (buffer .exit) ≡ bufferAfter (decomposeText (now (text .entry)) (now (buffer .entry))) (now (buffer .entry)) ⌝ }
-    ensures { λ _. ⌜ Demand3OfText (now (text .entry)) ⌝ }
+// What was read, decomposed: the result text, or the refusal and the buffer as it was. Reading leaves nothing behind, so the buffer's
+// question, which is the first of all, can be asked here.
+fn write_read(read: LayerRead, buffer: &mut [u8]) -> WriteAnswer
+    requires { ⌜ (read .answer ≡ ReadAnswer.Read → Judged read) ⌝ }
+    ensures { λ r. ⌜ writeAnswer r ≡ lengthOf (decomposeRead (outcomeOf read) (now (buffer .entry))) ⌝ }
+    ensures { λ _. ⌜ now (buffer .exit) ≡ bufferAfter (decomposeRead (outcomeOf read) (now (buffer .entry))) (now (buffer .entry)) ⌝ }
 {
     if buffer.len() < 4_096 {
         return WriteAnswer::Refused(Refusal::Buffer, Place::Nothing);
     }
-    let read = text::read_layer(text);
     let answer = read.answer;
     if let ReadAnswer::Refused(refusal, place) = answer {
         return WriteAnswer::Refused(refusal, place);
     }
     let records = read.pieces;
     WriteAnswer::Written(write_run_of(read.settings, records, read.count, buffer))
+}
+
+// The result text of the layer that a text states, or the first of the refusals 1 to 6 and the buffer as it was.
+pub fn decompose_text(text: &[u8], buffer: &mut [u8]) -> WriteAnswer
+    ensures { λ r. ⌜ writeAnswer r ≡ lengthOf (decomposeText (now (text .entry)) (now (buffer .entry))) ⌝ }
+    ensures { λ _. ⌜ now (buffer .exit) ≡ bufferAfter (decomposeText (now (text .entry)) (now (buffer .entry))) (now (buffer .entry)) ⌝ }
+    ensures { λ _. ⌜ Demand3OfText (now (text .entry)) ⌝ }
+{
+    write_read(text::read_layer(text), buffer)
+}
+
+// The same of the layer that a settings text and a stream state, with the refusals 9 to 11 besides.
+pub fn decompose_stream(settings: &[u8], stream: &[u8], buffer: &mut [u8]) -> WriteAnswer
+    ensures { λ r. ⌜ writeAnswer r ≡ lengthOf (decomposeStream (now (settings .entry)) (now (stream .entry)) (now (buffer .entry))) ⌝ }
+    ensures { λ _. ⌜ now (buffer .exit) ≡ bufferAfter (decomposeStream (now (settings .entry)) (now (stream .entry)) (now (buffer .entry))) (now (buffer .entry)) ⌝ }
+    ensures { λ _. ⌜ Demand3OfStream (now (settings .entry)) (now (stream .entry)) ⌝ }
+{
+    write_read(stream::read_stream(settings, stream), buffer)
 }

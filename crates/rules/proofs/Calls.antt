@@ -16,13 +16,13 @@ use Rattle.rules.specs.Edges.{edgeOf}
 use Rattle.rules.specs.Decomposition.{Run, run}
 use Rattle.rules.specs.LayerText.{layerText}
 use Rattle.rules.specs.ResultText.{resultText}
-use Rattle.rules.specs.Questions.{done, refused, ask, judgeLayer, Valid}
-use Rattle.rules.specs.Calls.{newSettings, edgeBetween, scoreMasks, decomposeLayer, writeLayer, decomposeText}
+use Rattle.rules.specs.Questions.{Outcome, done, refused, ask, judgeLayer, Valid, Layer, readLayer}
+use Rattle.rules.specs.Calls.{newSettings, edgeBetween, scoreMasks, decomposeLayer, writeLayer, decomposeRead, decomposeText}
 use Rattle.rules.specs.Loader.{loaderNumber, placeFrom}
 use Rattle.rules.specs.Refusals.{Ends, accepts, OfSettings, setting, OfRecords, OfMaskList, records, mask-count, OfMasks, mask-list, mask-range, OfText, size, form, range, area, overlap, OfBuffer, buffer, given}
 use Rattle.rules.specs.Demands.{layerScore}
 use Rattle.rules.proofs.Outcomes.{ends-then, ends-ask, ends-each, ends-refused, then-with}
-use Rattle.rules.proofs.Validity.{sound-valid, judged}
+use Rattle.rules.proofs.Validity.{Sound, sound-valid, judged}
 use Rattle.rules.proofs.Reading.{read-ends}
 
 pub settings-end : (masks spacing margin weight budget : ℕ) → Ends (λ s. settingsInRange s ≡ true) OfSettings (newSettings masks spacing margin weight budget)
@@ -62,13 +62,21 @@ write-ends fits s ps out =
     ends-then (ends-refused (λ _ _ r. given r) (judged s ps)) λ _ f.
     accepts (omega (arith, leb-true 32_768 (length out) room, fits s ps (sound-valid s ps f)))
 
-pub load-ends : ((s : Settings) (ps : List Piece) → Valid s ps → length (resultText (run s ps)) ≤ 4_096)
-    → (text out : List ℕ) → Ends (λ result. length result ≤ length out) (OfBuffer (OfText text)) (decomposeText text out)
-unfolding decomposeText
-load-ends fits text out =
+-- the refusals of a call that reads a layer are 1 and those of the reading; Q is what follows for a result text from what holds of the layer
+pub read-call-ends : {P : Layer → Type 0} {Q : List ℕ → Type 0} {R : ℕ → Place → Type 0} (read : Outcome Layer) (out : List ℕ)
+    → ((l : Layer) → 4_096 ≤ length out → P l → Q (resultText (run (l .settings) (l .pieces)))) → Ends P R read → Ends Q (OfBuffer R) (decomposeRead read out)
+read-call-ends read out holds e =
     ends-then (ends-ask (leb 4_096 (length out)) 1 _ buffer) λ _ room.
-    ends-then (ends-refused (λ _ _ r. given r) (read-ends text)) λ l f.
-    accepts (omega (arith, leb-true 4_096 (length out) room, fits (l .settings) (l .pieces) (sound-valid (l .settings) (l .pieces) f)))
+    ends-then (ends-refused (λ _ _ r. given r) e) λ l f.
+    accepts (holds l (leb-true 4_096 (length out) room) f)
+
+module _ (fits : (s : Settings) (ps : List Piece) → Valid s ps → length (resultText (run s ps)) ≤ 4_096) where
+  pub has-room : (out : List ℕ) (l : Layer) → 4_096 ≤ length out → Sound (l .settings) (l .pieces) → length (resultText (run (l .settings) (l .pieces))) ≤ length out
+  has-room out l room f = omega (arith, fits (l .settings) (l .pieces) (sound-valid (l .settings) (l .pieces) f))
+
+  pub load-ends : (text out : List ℕ) → Ends (λ result. length result ≤ length out) (OfBuffer (OfText text)) (decomposeText text out)
+  unfolding decomposeText
+  load-ends text out = read-call-ends (readLayer text) out (has-room out) (read-ends text)
 
 -- the counts and the cost of a decomposition are those of its masks
 pub decompose-counts : (s : Settings) (ps : List Piece) (lent : List ℕ) (r : Run) → decomposeLayer s ps lent ≡ done r

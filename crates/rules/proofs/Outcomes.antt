@@ -45,6 +45,12 @@ pub ends-ask : {R : ℕ → Place → Type 0} (b : Bool) (number : ℕ) (place :
 ends-ask true number place r = accepts refl
 ends-ask false number place r = refuses r
 
+-- one of two outcomes, by a test
+pub ends-if : {A : Type 0} {P : A → Type 0} {R : ℕ → Place → Type 0} {a b : Outcome A} (t : Bool) → Ends P R a → Ends P R b
+    → Ends P R (elim t [ false ↦ a | true ↦ b ])
+ends-if false e f = e
+ends-if true e f = f
+
 -- a question at each number below n: all pass, or the first that does not decides
 pub ends-each : {P : ℕ → Type 0} {R : ℕ → Place → Type 0} (question : ℕ → Outcome (Unit {0})) (n : ℕ)
     → ((i : ℕ) → i < n → Ends (λ _. P i) R (question i)) → Ends (λ _. (i : ℕ) → i < n → P i) R (askEach question n)
@@ -95,3 +101,15 @@ then-with o f b e next = let r = then-done o f b e in next (r .0) (r .1) (r .2)
 pub ask-yes : (t : Bool) (number : ℕ) (place : Place) → ask t number place ≡ done tt → t ≡ true
 ask-yes true number place e = refl
 ask-yes false number place e = let z : _≡_ {A = ℕ} 0 1 = cc e in absurd (omega arith)
+
+-- ---- Ways on
+
+-- two ways on that agree wherever they begin
+pub then-same : {A B : Type 0} (o : Outcome A) {f g : A → Outcome B} → ((a : A) → o ≡ done a → f a ≡ g a) → andThen o f ≡ andThen o g
+then-same (done a) h = h a refl
+then-same (refused number place) h = refl
+
+-- three parts one after the other
+pub then-assoc : {A B C : Type 0} (o : Outcome A) (f : A → Outcome B) (g : B → Outcome C) → andThen (andThen o f) g ≡ (andThen o λ a. andThen (f a) g)
+then-assoc (done a) f g = refl
+then-assoc (refused number place) f g = refl

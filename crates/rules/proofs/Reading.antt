@@ -1,5 +1,6 @@
 -- Every layer text is read as a sound layer, which is valid, or refused with a number and a place of the rules. The law goes through the lines in their order.
--- A line that is read takes one line off the text, so the line that is refused is one that the text has, or the next. Assumes nothing.
+-- A line that is read takes one line off the text, so the line that is refused is one that the text has, or the next. The laws of lines with one number hold for
+-- any refusals that allow 3 and 4 there. Assumes nothing.
 use mathlib.Core.Bool.{Bool, true, false}
 use mathlib.Core.List.{List, [], _∷_}
 use mathlib.Core.Option.{Option, none, some}
@@ -41,54 +42,61 @@ first-counted (b ∷ text) body rest e = go (eqb b newline) refl (firstLine text
     go false et unended eo ih = let e′ = rw (et, firstLine, eo) at e in let z : _≡_ {A = ℕ} 0 1 = cc e′ in absurd (omega arith)
 
 -- where a reader of the whole text is: the text left begins with line `lineNo`
-record Position (whole : List ℕ) (lineNo : ℕ) (text : List ℕ) : Type 0 where
-  first : 1 ≤ lineNo
-  counted : lineNo + lineCount text ≡ lineCount whole + 1
+pub record Position (whole : List ℕ) (lineNo : ℕ) (text : List ℕ) : Type 0 where
+  pub first : 1 ≤ lineNo
+  pub counted : lineNo + lineCount text ≡ lineCount whole + 1
 
-here : {whole text : List ℕ} {lineNo : ℕ} → Position whole lineNo text → lineNo ≤ 519 → LineOf whole lineNo
+pub here : {whole text : List ℕ} {lineNo : ℕ} → Position whole lineNo text → lineNo ≤ 519 → LineOf whole lineNo
 here p h = record { first = p .first; next = omega (arith, p .counted); most = h }
 
 -- no line more
 on : {whole text : List ℕ} {lineNo : ℕ} → Position whole lineNo text → Position whole (lineNo + 0) text
 on p = record { first = omega (arith, p .first); counted = omega (arith, p .counted) }
 
-module _ (whole : List ℕ) where
-  line-ends : (key : List ℕ) (count lineNo : ℕ) (text : List ℕ) → Position whole lineNo text → lineNo ≤ 519
-      → Ends (λ l. Position whole (suc lineNo) (l .rest)) (OfText whole) (readLine key count lineNo text)
+-- the refusals of a line: any that allow 3 there, and 4 where it has a range
+module _ (whole : List ℕ) {R : ℕ → Place → Type 0} where
+  line-ends : (key : List ℕ) (count lineNo : ℕ) (text : List ℕ) → Position whole lineNo text → R 3 (Place.Line lineNo)
+      → Ends (λ l. Position whole (suc lineNo) (l .rest)) R (readLine key count lineNo text)
   unfolding readLine lineOf
-  line-ends key count lineNo text p h = go (firstLine text) refl
+  line-ends key count lineNo text p r3 = go (firstLine text) refl
     where
       in-form : (rest : List ℕ) → Position whole (suc lineNo) rest → (body : List ℕ) → firstLine text ≡ ended body rest → (o : Option (List ℕ)) → lineNumbers key count body ≡ o
-          → Ends {A = NumbersRead} (λ l. Position whole (suc lineNo) (l .rest)) (OfText whole) (readLine key count lineNo text)
-      in-form rest q body e none eo = rw (e, lineOf, eo, readLine) (refuses (form (here p h)))
+          → Ends {A = NumbersRead} (λ l. Position whole (suc lineNo) (l .rest)) R (readLine key count lineNo text)
+      in-form rest q body e none eo = rw (e, lineOf, eo, readLine) (refuses r3)
       in-form rest q body e (some ns) eo = rw (e, lineOf, eo, readLine) (accepts q)
 
-      go : (l : FirstLine) → firstLine text ≡ l → Ends {A = NumbersRead} (λ l. Position whole (suc lineNo) (l .rest)) (OfText whole) (readLine key count lineNo text)
-      go unended e = rw (e, lineOf, readLine) (refuses (form (here p h)))
+      go : (l : FirstLine) → firstLine text ≡ l → Ends {A = NumbersRead} (λ l. Position whole (suc lineNo) (l .rest)) R (readLine key count lineNo text)
+      go unended e = rw (e, lineOf, readLine) (refuses r3)
       go (ended body rest) e = in-form rest (record { first = omega arith; counted = omega (arith, p .counted, first-counted text body rest e) }) body e (lineNumbers key count body) refl
 
-  number-ends : (expected : NumberLine) (lineNo : ℕ) (text : List ℕ) → Position whole lineNo text → lineNo ≤ 519
-      → Ends (λ r. (expected .range (r .number) ≡ true) × Position whole (suc lineNo) (r .rest)) (OfText whole) (readNumber expected lineNo text)
+  number-ends : (expected : NumberLine) (lineNo : ℕ) (text : List ℕ) → Position whole lineNo text → R 3 (Place.Line lineNo) → R 4 (Place.Line lineNo)
+      → Ends (λ r. (expected .range (r .number) ≡ true) × Position whole (suc lineNo) (r .rest)) R (readNumber expected lineNo text)
   unfolding readNumber
-  number-ends expected lineNo text p h =
-      ends-then (line-ends (expected .key) 1 lineNo text p h) λ l q.
-      ends-then (ends-ask (expected .range (getD (l .numbers) 0 0)) 4 _ (range (here p h))) λ _ r.
+  number-ends expected lineNo text p r3 r4 =
+      ends-then (line-ends (expected .key) 1 lineNo text p r3) λ l q.
+      ends-then (ends-ask (expected .range (getD (l .numbers) 0 0)) 4 _ r4) λ _ r.
       accepts (r, q)
 
 -- each number is in the range that its line has
 abbrev InRanges : List NumberLine → List ℕ → Type 0
 InRanges ls ns = (i : ℕ) → i < length ls → getD ls i (record { key = []; range = λ _. true }) .range (getD ns i 0) ≡ true
 
-module _ (whole : List ℕ) where
-  numbers-end : (ls : List NumberLine) (lineNo : ℕ) (text : List ℕ) → Position whole lineNo text → lineNo + length ls ≤ 520
-      → Ends (λ r. InRanges ls (r .numbers) × Position whole (lineNo + length ls) (r .rest)) (OfText whole) (readNumbers ls lineNo text)
+-- both at each line of the text up to a last one
+abbrev pub AtLines : List ℕ → (ℕ → Place → Type 0) → ℕ → Type 0
+AtLines whole R last = (lineNo : ℕ) → LineOf whole lineNo → lineNo ≤ last → R 3 (Place.Line lineNo) × R 4 (Place.Line lineNo)
+
+module _ (whole : List ℕ) {R : ℕ → Place → Type 0} (last : ℕ) (most : last ≤ 519) (allowed : AtLines whole R last) where
+  numbers-end : (ls : List NumberLine) (lineNo : ℕ) (text : List ℕ) → Position whole lineNo text → lineNo + length ls ≤ suc last
+      → Ends (λ r. InRanges ls (r .numbers) × Position whole (lineNo + length ls) (r .rest)) R (readNumbers ls lineNo text)
   unfolding readNumbers
   numbers-end [] lineNo text p h = accepts {a = record { numbers = []; rest = text }} (λ i l. absurd (omega arith), on p)
   numbers-end (expected ∷ more) lineNo text p h =
-      ends-then (number-ends whole expected lineNo text p (omega arith)) λ n f.
+      let r = allowed lineNo (here p (omega arith)) (omega arith) in
+      ends-then (number-ends whole expected lineNo text p (r .0) (r .1)) λ n f.
       ends-then (numbers-end more (suc lineNo) (n .rest) (f .1) (omega arith)) λ ns g.
       accepts (λ i. elim i [ zero ↦ λ l. f .0 | suc i ↦ λ l. g .0 i (omega arith) ], record { first = omega (arith, p .first); counted = omega (arith, g .1 .counted) })
 
+module _ (whole : List ℕ) where
   -- what is true of n pieces that were read, and of the text after them
   record Pieces (n lineNo : ℕ) (ps : List Piece) (rest : List ℕ) : Type 0 where
     count : length ps ≡ n
@@ -108,7 +116,7 @@ module _ (whole : List ℕ) where
       → Ends (λ r. (pieceInRange (r .piece) ≡ true) × (hasArea (r .piece) ≡ true) × Position whole (suc lineNo) (r .rest)) (OfText whole) (readPiece lineNo text)
   unfolding readPiece
   piece-ends lineNo text p h =
-      ends-then (line-ends whole (ascii "piece=") 5 lineNo text p h) λ l q.
+      ends-then (line-ends whole (ascii "piece=") 5 lineNo text p (form (here p h))) λ l q.
       ends-then (judged-piece (Place.Line lineNo) (pieceFrom (l .numbers)) (range (here p h)) (area (here p h))) λ _ f.
       accepts (f .0, f .1, q)
 
@@ -126,33 +134,38 @@ module _ (whole : List ℕ) where
       accepts (one-more (one .piece) (f .0) (f .1) g)
 
 -- what is true of the six lines that were read, and of the text after them
-record Header (whole : List ℕ) (h : HeaderRead) : Type 0 where
-  settings : settingsInRange (h .settings) ≡ true
-  count : countInRange (h .count) ≡ true
-  after : Position whole 7 (h .rest)
+pub record Header (whole : List ℕ) (h : HeaderRead) : Type 0 where
+  pub settings : settingsInRange (h .settings) ≡ true
+  pub count : countInRange (h .count) ≡ true
+  pub after : Position whole 7 (h .rest)
 
-header-ends : (text : List ℕ) → Ends (Header text) (OfText text) (readHeader text)
+-- the six lines, with any refusals R that allow 3 and 4 there
+pub header-ends : {R : ℕ → Place → Type 0} (text : List ℕ) → AtLines text R 6 → Ends (Header text) R (readHeader text)
 unfolding readHeader settingsInRange
-header-ends text =
-    ends-then (numbers-end text headerLines 1 text (record { first = omega arith; counted = omega arith }) (omega arith)) λ l f.
+header-ends text allowed =
+    ends-then (numbers-end text 6 (omega arith) allowed headerLines 1 text (record { first = omega arith; counted = omega arith }) (omega arith)) λ l f.
     accepts (record {
       settings = rw (f .0 0 (omega arith), f .0 1 (omega arith), f .0 2 (omega arith), f .0 3 (omega arith), f .0 4 (omega arith));
       count = f .0 5 (omega arith);
       after = f .1;
     })
 
-few : (n : ℕ) → countInRange n ≡ true → n ≤ 512
+-- of a layer text
+text-header : (text : List ℕ) → Ends (Header text) (OfText text) (readHeader text)
+text-header text = header-ends text λ lineNo l h. (form l, range l)
+
+pub few : (n : ℕ) → countInRange n ≡ true → n ≤ 512
 few n e = within-facts 0 512 n e .high
 
 -- there are at most 512 pieces
 pub header-few : (text : List ℕ) (h : HeaderRead) → readHeader text ≡ done h → h .count ≤ 512
-header-few text h e = few (h .count) (accepted (header-ends text) e .count)
+header-few text h e = few (h .count) (accepted (text-header text) e .count)
 
 pub read-ends : (text : List ℕ) → Ends (λ l. Sound (l .settings) (l .pieces)) (OfText text) (readLayer text)
 unfolding readLayer readBody layerFrom
 read-ends text =
     ends-then (ends-ask (leb (length text) 32_768) 2 _ size) λ _ _.
-    ends-then (header-ends text) λ h f.
+    ends-then (text-header text) λ h f.
     ends-then (pieces-end text (h .count) 7 (h .rest) (f .after) (omega (arith, few (h .count) (f .count)))) λ read g.
     ends-then (ends-ask (isEmpty (read .rest)) 3 _ (form (here (g .after) (omega (arith, few (h .count) (f .count)))))) λ _ _.
     ends-then (judged-overlaps (read .pieces) (λ j o l. overlap o (omega (arith, g .count, g .after .counted)) (omega (arith, g .count, few (h .count) (f .count))))) λ _ d.

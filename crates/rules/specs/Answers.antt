@@ -30,6 +30,9 @@ refusalNumber Refusal.Area = 5
 refusalNumber Refusal.Overlap = 6
 refusalNumber Refusal.MaskCount = 7
 refusalNumber Refusal.MaskRange = 8
+refusalNumber Refusal.Record = 9
+refusalNumber Refusal.Rectangle = 10
+refusalNumber Refusal.Unit = 11
 
 abbrev pub settingsAnswer : SettingsAnswer → Outcome Settings
 settingsAnswer (SettingsAnswer.Accepted s) = done s

@@ -14,7 +14,8 @@ use Rattle.rules.specs.Score.{scoreOf}
 use Rattle.rules.specs.Decomposition.{Run, run}
 use Rattle.rules.specs.LayerText.{layerText}
 use Rattle.rules.specs.ResultText.{resultText}
-use Rattle.rules.specs.Questions.{Outcome, done, refused, ask, andThen, askEach, judgeLayer, readLayer}
+use Rattle.rules.specs.Questions.{Outcome, done, refused, ask, andThen, askEach, judgeLayer, Layer, readLayer}
+use Rattle.rules.specs.Stream.{readStream}
 
 -- settings from their values
 unfoldable pub newSettings : ℕ → ℕ → ℕ → ℕ → ℕ → Outcome Settings
@@ -54,12 +55,19 @@ writeLayer s ps buffer =
     andThen (judgeLayer s ps) λ _.
     done (layerText s ps)
 
--- the result text of the layer that a text states, with a lent buffer for it
-unfoldable pub decomposeText : List ℕ → List ℕ → Outcome (List ℕ)
-decomposeText text buffer =
+-- the result text of a layer that is read, with a lent buffer for it
+abbrev pub decomposeRead : Outcome Layer → List ℕ → Outcome (List ℕ)
+decomposeRead read buffer =
     andThen (ask (leb 4_096 (length buffer)) 1 Place.Nothing) λ _.
-    andThen (readLayer text) λ l.
+    andThen read λ l.
     done (resultText (run (l .settings) (l .pieces)))
+
+-- from a layer text, and from a settings text and a stream
+unfoldable pub decomposeText : List ℕ → List ℕ → Outcome (List ℕ)
+decomposeText text buffer = decomposeRead (readLayer text) buffer
+
+unfoldable pub decomposeStream : List ℕ → List ℕ → List ℕ → Outcome (List ℕ)
+decomposeStream settings stream buffer = decomposeRead (readStream settings stream) buffer
 
 -- the lent buffer after a text was to be written: the text, then what stood there; a refusal leaves it as it was
 abbrev pub bufferAfter : Outcome (List ℕ) → List ℕ → List ℕ

@@ -17,8 +17,9 @@ use Rattle.rules.specs.Score.{scoreOf}
 use Rattle.rules.specs.Decomposition.{Run, run, reached, completed, stepsInAll}
 use Rattle.rules.specs.LayerText.{layerText}
 use Rattle.rules.specs.Questions.{Outcome, done, refused, Valid, Layer, readLayer}
-use Rattle.rules.specs.Calls.{newSettings, edgeBetween, scoreMasks, decomposeLayer, masksAfter, writeLayer, decomposeText, bufferAfter}
-use Rattle.rules.specs.Refusals.{Ends, OfSettings, OfRecords, OfMaskList, OfMasks, OfText, OfBuffer}
+use Rattle.rules.specs.Stream.{readStream}
+use Rattle.rules.specs.Calls.{newSettings, edgeBetween, scoreMasks, decomposeLayer, masksAfter, writeLayer, decomposeText, decomposeStream, bufferAfter}
+use Rattle.rules.specs.Refusals.{Ends, OfSettings, OfRecords, OfMaskList, OfMasks, OfText, OfStream, OfBuffer}
 
 -- an assignment of these pieces to these masks: a list of n masks, each below K
 pub record Assignment (s : Settings) (ps : List Piece) (masks : List ℕ) : Type 0 where
@@ -38,9 +39,11 @@ pub record Demand1 : Type 0 where
   -- a mask for every piece, marked best or open
   pub decompose : (s : Settings) (ps : List Piece) (masks : List ℕ) → Ends (λ r. Assignment s ps (r .masks)) (OfMaskList (length ps)) (decomposeLayer s ps masks)
   pub read : (text : List ℕ) → Ends (λ l. Valid (l .settings) (l .pieces)) (OfText text) (readLayer text)
+  pub stream : (settings stream : List ℕ) → Ends (λ l. Valid (l .settings) (l .pieces)) (OfStream settings stream) (readStream settings stream)
   -- what is written has room in the buffer
   pub write : (s : Settings) (ps : List Piece) (buffer : List ℕ) → Ends (λ text. length text ≤ length buffer) (OfBuffer (OfRecords (length ps))) (writeLayer s ps buffer)
   pub load : (text buffer : List ℕ) → Ends (λ result. length result ≤ length buffer) (OfBuffer (OfText text)) (decomposeText text buffer)
+  pub loadStream : (settings stream buffer : List ℕ) → Ends (λ result. length result ≤ length buffer) (OfBuffer (OfStream settings stream)) (decomposeStream settings stream buffer)
   -- a refusal leaves lent memory as it was
   pub masksKept : (number : ℕ) (place : Place) (masks : List ℕ) → masksAfter (refused number place) masks ≡ masks
   pub bufferKept : (number : ℕ) (place : Place) (buffer : List ℕ) → bufferAfter (refused number place) buffer ≡ buffer
@@ -122,6 +125,13 @@ AgainstLarger s ps r = (larger : Settings) → Alike s larger → Valid larger p
 abbrev pub Demand3Of : Settings → List Piece → Outcome Run → Type 0
 Demand3Of s ps o = (r : Run) → o ≡ done r → AgainstLarger s ps r
 
--- demand 3 of the run behind a text: of the run on the layer that the text states, where it states one
+-- demand 3 of the run behind a layer that is read, where one is
+abbrev pub Demand3OfRead : Outcome Layer → Type 0
+Demand3OfRead read = (l : Layer) → read ≡ done l → AgainstLarger (l .settings) (l .pieces) (run (l .settings) (l .pieces))
+
+-- of the layer that a text states, and of the layer that a settings text and a stream state
 abbrev pub Demand3OfText : List ℕ → Type 0
-Demand3OfText text = (l : Layer) → readLayer text ≡ done l → AgainstLarger (l .settings) (l .pieces) (run (l .settings) (l .pieces))
+Demand3OfText text = Demand3OfRead (readLayer text)
+
+abbrev pub Demand3OfStream : List ℕ → List ℕ → Type 0
+Demand3OfStream settings stream = Demand3OfRead (readStream settings stream)

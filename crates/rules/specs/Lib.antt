@@ -10,6 +10,7 @@ pub mod Lines
 pub mod LayerText
 pub mod ResultText
 pub mod Questions
+pub mod Stream
 pub mod Calls
 pub mod Refusals
 pub mod Loader

@@ -13,6 +13,7 @@ use Rattle.rules.specs.Questions.{Outcome, done, refused}
 abbrev pub placeNumber : Place → ℕ
 placeNumber (Place.Line k) = k
 placeNumber (Place.Piece i) = i
+placeNumber (Place.Record k) = k
 placeNumber Place.Nothing = 0
 
 -- the result's length, or a number that states the refusal

@@ -1,7 +1,8 @@
 -- What a call can come to (RULES 8 and 11): a value, or one of the refusals that its questions give, each with its number and place.
 use mathlib.Core.List.{List}
-use Prim.Native.Nat.{ℕ, _+_, _≤_, _<_}
+use Prim.Native.Nat.{ℕ, _+_, _*_, _≤_, _<_}
 use lib.Dec.{eqb}
+use lib.ListN.{length}
 use Rattle.rules.specs.declared.refusal.Place.{Place}
 use Rattle.rules.specs.Basics.{countOf}
 use Rattle.rules.specs.Lines.{newline}
@@ -50,6 +51,23 @@ pub data OfText (text : List ℕ) : ℕ → Place → Type 0 where
   range : {lineNo : ℕ} → LineOf text lineNo → OfText text 4 (Place.Line lineNo)
   area : {lineNo : ℕ} → LineOf text lineNo → OfText text 5 (Place.Line lineNo)
   overlap : {i : ℕ} → 1 ≤ i → i + 7 ≤ lineCount text → i < 512 → OfText text 6 (Place.Piece i)
+
+-- a record that a stream has or that is the next one; records that pass have seven bytes on the average, or more, so a stream has less than 10,000
+pub record RecordOf (stream : List ℕ) (k : ℕ) : Type 0 where
+  pub first : 1 ≤ k
+  pub next : 7 * k ≤ length stream + 8
+
+-- the refusals of a settings text and a stream; UNITS is record 4
+pub data OfStream (settings stream : List ℕ) : ℕ → Place → Type 0 where
+  size : OfStream settings stream 2 Place.Nothing
+  form : {lineNo : ℕ} → LineOf settings lineNo → lineNo ≤ 7 → OfStream settings stream 3 (Place.Line lineNo)
+  setting : {lineNo : ℕ} → LineOf settings lineNo → lineNo ≤ 6 → OfStream settings stream 4 (Place.Line lineNo)
+  record-form : {k : ℕ} → RecordOf stream k → OfStream settings stream 9 (Place.Record k)
+  rectangle : {k : ℕ} → RecordOf stream k → OfStream settings stream 10 (Place.Record k)
+  unit : OfStream settings stream 11 (Place.Record 4)
+  count : OfStream settings stream 4 Place.Nothing
+  range : {i : ℕ} → i < 512 → OfStream settings stream 4 (Place.Piece i)
+  overlap : {i : ℕ} → 1 ≤ i → i < 512 → OfStream settings stream 6 (Place.Piece i)
 
 -- the refusals of a call with an output buffer: 1, then those of what it is given
 pub data OfBuffer (R : ℕ → Place → Type 0) : ℕ → Place → Type 0 where

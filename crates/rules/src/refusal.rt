@@ -3,7 +3,7 @@ ghost use mathlib.Core.Path.{_≡_};
 ghost use Rattle.rules.specs.Answers.{refusalNumber};
 ghost use Rattle.rules.specs.Loader.{placeNumber};
 
-// One case for each question, in their order.
+// One case for each question, in the order of their numbers.
 pub enum Refusal {
     Buffer,
     TextSize,
@@ -13,6 +13,9 @@ pub enum Refusal {
     Overlap,
     MaskCount,
     MaskRange,
+    Record,
+    Rectangle,
+    Unit,
 }
 
 impl Refusal {
@@ -29,14 +32,18 @@ impl Refusal {
             Refusal::Overlap => 6,
             Refusal::MaskCount => 7,
             Refusal::MaskRange => 8,
+            Refusal::Record => 9,
+            Refusal::Rectangle => 10,
+            Refusal::Unit => 11,
         }
     }
 }
 
-// Where the refused input stands: a line from 1, a piece from 0, or nothing.
+// Where the refused input stands: a line from 1, a piece from 0, a record of a stream from 1, or nothing.
 pub enum Place {
     Line(u32),
     Piece(u32),
+    Record(u32),
     Nothing,
 }
 
@@ -48,6 +55,7 @@ impl Place {
         match self {
             Place::Line(line) => line,
             Place::Piece(piece) => piece,
+            Place::Record(record) => record,
             Place::Nothing => 0,
         }
     }

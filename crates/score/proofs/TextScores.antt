@@ -18,7 +18,7 @@ use Rattle.rules.specs.Calls.{scoreMasks}
 use Rattle.rules.specs.Edges.{graphOf}
 use Rattle.rules.specs.Questions.{Outcome, done, refused, ask, andThen, askEach, Valid, judgeLayer, readLayer}
 use Rattle.rules.specs.Score.{scoreOf}
-use Rattle.rules.proofs.Outcomes.{accepted, ends-ask, ends-each, each-ext, ask-yes}
+use Rattle.rules.proofs.Outcomes.{accepted, ends-ask, ends-each, each-ext, ask-yes, then-same}
 use Rattle.rules.proofs.Ranges.{within-facts, settings-facts}
 use Rattle.rules.proofs.Tests.{by-test, same}
 use Rattle.rules.proofs.Validity.{valid-sound}
@@ -45,11 +45,6 @@ module _ (limit : ℕ) (small : limit ≤ 8) (n : ℕ) where
 
   mask-same : n < limit → maskOf n ≡ n
   mask-same h = rw (le-leb n 255 (omega arith))
-
--- two ways on that agree wherever they begin
-then-same : {A B : Type 0} (o : Outcome A) {f g : A → Outcome B} → ((a : A) → o ≡ done a → f a ≡ g a) → andThen o f ≡ andThen o g
-then-same (done a) h = h a refl
-then-same (refused number place) h = refl
 
 module _ (s : Settings) (ps : List Piece) (ns : List ℕ) (valid : Valid s ps) where
   abbrev masks : List ℕ

@@ -1,7 +1,6 @@
 // The score of masks that were set by hand: `score LAYER-FILE MASK-FILE` prints the conflicts, the stitches and the cost of the
 // masks on the layer, or the refusal (RULES 11 and 12). What keeps the files from being scored is said on standard error, and then
 // nothing is printed.
-mod files;
 mod masks;
 mod texts;
 

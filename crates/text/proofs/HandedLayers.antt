@@ -1,4 +1,4 @@
--- What a layer that was handed back says of the text. Whoever reads a layer text stands on it. Assumes nothing.
+-- What a layer that was handed back says of what was read, be it a layer text or a stream. Whoever calls a reader stands on it. Assumes nothing.
 use mathlib.Core.List.{List}
 use mathlib.Core.Path.{_≡_, refl, sym, ap, ap₂, subst₂, _∙_}
 use Prim.Native.Nat.{ℕ, _-_, _≤_}
@@ -12,8 +12,7 @@ use Rattle.rules.specs.declared.answers.ReadAnswer.{ReadAnswer}
 use Rattle.rules.specs.declared.answers.LayerRead.{LayerRead}
 use Rattle.rules.specs.Settings.{noPiece}
 use Rattle.rules.specs.Answers.{refusalNumber, readAnswer, HandedBack}
-use Rattle.rules.specs.Questions.{Outcome, done, refused, Layer, readLayer, Valid}
-use Rattle.rules.proofs.Reading.{read-valid}
+use Rattle.rules.specs.Questions.{Outcome, done, refused, Layer, Valid}
 use Rattle.rules.proofs.Ranges.{within-facts}
 use Rattle.rules.proofs.Validity.{valid-sound}
 
@@ -46,12 +45,16 @@ handed-read (refused number p) r h e =
     let other : _≡_ {A = Outcome (Unit {0})} (done tt) (refused number p) = ap readAnswer (sym e) ∙ h .answer in
     let z : _≡_ {A = ℕ} 0 1 = cc in absurd (omega arith)
 
--- it is a valid layer of at most 512 pieces
-module _ (text : List ℕ) {r : LayerRead} (w : WasRead (readLayer text) r) where
+-- every layer that comes of the reading is valid
+abbrev pub ReadsValid : Outcome Layer → Type 0
+ReadsValid o = (l : Layer) → o ≡ done l → Valid (l .settings) (l .pieces)
+
+-- then the one that was read is, and it has at most 512 pieces
+module _ (o : Outcome Layer) (valid : ReadsValid o) {r : LayerRead} (w : WasRead o r) where
   pub read-few : r .count ≤ 512
   read-few =
-      let valid = valid-sound _ _ (read-valid text (w .layer) (w .read)) in
-      omega (arith, w .count, within-facts 0 512 (length (w .layer .pieces)) (valid .count) .high)
+      let sound = valid-sound _ _ (valid (w .layer) (w .read)) in
+      omega (arith, w .count, within-facts 0 512 (length (w .layer .pieces)) (sound .count) .high)
 
   pub read-judged : Valid (r .settings) (take (r .count) (r .pieces))
-  read-judged = subst₂ Valid (sym (w .settings)) (sym (w .pieces)) (read-valid text (w .layer) (w .read))
+  read-judged = subst₂ Valid (sym (w .settings)) (sym (w .pieces)) (valid (w .layer) (w .read))

@@ -37,7 +37,7 @@ was-read : {A : Type 0} (o : Outcome A) → wasRead o ≡ done tt → (a : A) ×
 was-read (done a) e = (a, refl)
 was-read (refused n p) e = let z : _≡_ {A = ℕ} 0 1 = cc e in absurd (omega arith)
 
-not-empty : (text : List ℕ) → 0 < length text → isEmpty text ≡ false
+pub not-empty : (text : List ℕ) → 0 < length text → isEmpty text ≡ false
 not-empty [] h = absurd (omega arith)
 not-empty (b ∷ text) h = refl
 

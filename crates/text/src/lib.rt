@@ -5,4 +5,9 @@ mod overlaps;
 mod pieces;
 mod read;
 
+pub use header::HeaderAnswer;
+pub use header::read_header;
+pub use pieces::no_pieces;
+pub use read::judge_read;
 pub use read::read_layer;
+pub use read::refuse;

@@ -17,7 +17,7 @@ use rules::Refusal;
 use rules::Settings;
 
 // A refusal hands back zeros.
-fn refuse(refusal: Refusal, place: Place) -> LayerRead
+pub fn refuse(refusal: Refusal, place: Place) -> LayerRead
     ensures { λ r. ⌜ HandedBack (refused (refusalNumber refusal) place) r ⌝ }
 {
     let settings = Settings {
@@ -37,7 +37,7 @@ fn refuse(refusal: Refusal, place: Place) -> LayerRead
 }
 
 // Pieces that were read with nothing after them: overlaps, then the layer.
-fn judge_read(settings: Settings, count: usize, pieces: [Piece; 512]) -> LayerRead
+pub fn judge_read(settings: Settings, count: usize, pieces: [Piece; 512]) -> LayerRead
     requires { ⌜ count ≤ 512 ⌝ }
     requires { ⌜ pieces ≡ inRecords (take count pieces) ⌝ }
     ensures { λ r. ⌜ HandedBack (layerFrom settings (take count pieces)) r ⌝ }

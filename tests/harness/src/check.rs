@@ -1,15 +1,17 @@
-//! Checks of one layer or text, with a count of what was seen and a report of what was wrong.
+//! Checks of one layer, text or stream, with a count of what was seen and a report of what was wrong.
 
-use crate::compare::{compare, field, shown, Case};
+use crate::compare::{compare, field, Case};
+use crate::input::Input;
 use crate::layer::Layer;
 use crate::reference::{self, Answer, Mutation};
 use crate::shrink;
+use crate::shrink_stream;
 use crate::subject::Subject;
 use crate::tally::{Family, Tally};
 
 /// A difference, on the smallest input that was found for it.
 pub struct Finding {
-    pub text: Vec<u8>,
+    pub input: Input<Vec<u8>>,
     pub report: String,
 }
 
@@ -27,9 +29,14 @@ impl Checker {
         Checker { subject, tally }
     }
 
-    /// Compares one call on a text of any kind.
-    pub fn text(&mut self, family: Family, text: Vec<u8>, size: usize) -> Result<(), Finding> {
-        let case = self.case(text, size);
+    /// Compares one call on input of any kind.
+    pub fn input(
+        &mut self,
+        family: Family,
+        input: Input<Vec<u8>>,
+        size: usize,
+    ) -> Result<(), Finding> {
+        let case = self.case(input, size);
         match self.compared(family, &case) {
             Ok(_) => Ok(()),
             Err(_) => Err(self.smallest(&case)),
@@ -43,7 +50,7 @@ impl Checker {
         layer: &Layer,
         size: usize,
     ) -> Result<Option<Vec<u8>>, Finding> {
-        let case = self.case(layer.text(), size);
+        let case = self.case(Input::Layer(layer.text()), size);
         match self.compared(family, &case) {
             Ok(answer) => Ok(answer.ok()),
             Err(_) => Err(self.smallest(&case)),
@@ -87,9 +94,9 @@ impl Checker {
         Ok(())
     }
 
-    fn case(&self, text: Vec<u8>, result_size: usize) -> Case {
+    fn case(&self, input: Input<Vec<u8>>, result_size: usize) -> Case {
         Case {
-            text,
+            input,
             result_size,
             salt: self.tally.cases(),
         }
@@ -101,28 +108,48 @@ impl Checker {
         answer
     }
 
-    /// The report of a case that differs, on as small a text as is found.
+    /// The report of a case that differs, on input as small as is found.
     fn smallest(&self, case: &Case) -> Finding {
-        let differs = |text: &[u8]| compare(self.subject, &with_text(case, text)).is_err();
-        let text = match reference::read(&case.text, Mutation::None) {
-            Ok(layer) => shrink::layer(&layer, &|layer| differs(&layer.text())).text(),
-            Err(_) => shrink::text(&case.text, &differs),
+        let differs = |input| compare(self.subject, &with_input(case, input)).is_err();
+        let input = match &case.input {
+            Input::Layer(text) => Input::Layer(smallest_text(text, &|text| {
+                differs(Input::Layer(text.to_vec()))
+            })),
+            Input::Stream { settings, stream } => {
+                let differs =
+                    |settings: &[u8], stream: &[u8]| differs(stream_input(settings, stream));
+                let (settings, stream) = shrink_stream::stream(settings, stream, &differs);
+                Input::Stream { settings, stream }
+            }
         };
-        let fault = compare(self.subject, &with_text(case, &text)).err();
+        let fault = compare(self.subject, &with_input(case, input.clone())).err();
         let report = format!(
-            "with a result buffer of {} bytes {}\nthe layer text:\n{}",
+            "with a result buffer of {} bytes {}\n{}",
             case.result_size,
             fault.unwrap_or_default(),
-            shown(&text)
+            input.shown()
         );
-        Finding { text, report }
+        Finding { input, report }
     }
 }
 
-/// The same call on another text.
-fn with_text(case: &Case, text: &[u8]) -> Case {
-    let text = text.to_vec();
-    Case { text, ..*case }
+fn smallest_text(text: &[u8], differs: &dyn Fn(&[u8]) -> bool) -> Vec<u8> {
+    match reference::read(text, Mutation::None) {
+        Ok(layer) => shrink::layer(&layer, &|layer| differs(&layer.text())).text(),
+        Err(_) => shrink::text(text, differs),
+    }
+}
+
+fn stream_input(settings: &[u8], stream: &[u8]) -> Input<Vec<u8>> {
+    Input::Stream {
+        settings: settings.to_vec(),
+        stream: stream.to_vec(),
+    }
+}
+
+/// The same call on other input.
+fn with_input(case: &Case, input: Input<Vec<u8>>) -> Case {
+    Case { input, ..*case }
 }
 
 fn is_best(text: &[u8]) -> bool {
@@ -146,9 +173,9 @@ fn fault_of_more_budget(less: &[u8], more: &[u8]) -> Option<&'static str> {
 
 /// The subject and the reference agree on a result that the rules do not allow.
 fn broken(layer: &Layer, fault: &str) -> Finding {
-    let text = layer.text();
-    let report = format!("the result {fault}\nthe layer text:\n{}", shown(&text));
-    Finding { text, report }
+    let input = Input::Layer(layer.text());
+    let report = format!("the result {fault}\n{}", input.shown());
+    Finding { input, report }
 }
 
 #[cfg(test)]

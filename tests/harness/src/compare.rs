@@ -1,13 +1,14 @@
 //! One call compared with the reference: the number returned and every byte of memory.
 
 use crate::guarded::Guarded;
-use crate::reference::{self, Answer, Mutation};
+use crate::input::{shown, Input};
+use crate::reference::{Answer, Mutation};
 use crate::subject::{number_of, Subject};
 
 /// The input of one call.
 #[derive(Clone)]
 pub struct Case {
-    pub text: Vec<u8>,
+    pub input: Input<Vec<u8>>,
     pub result_size: usize,
     /// Chooses the bytes that are in and around the buffers before the call.
     pub salt: u64,
@@ -16,7 +17,7 @@ pub struct Case {
 /// The memory that a call is lent.
 #[derive(Clone)]
 struct Memory {
-    layer: Guarded,
+    input: Input<Guarded>,
     result: Guarded,
 }
 
@@ -28,9 +29,12 @@ struct Outcome {
 
 /// The reference's answer, or what is different about the subject's.
 pub fn compare(subject: Subject, case: &Case) -> Result<Answer, String> {
-    let answer = reference::answer(&case.text, case.result_size, Mutation::None);
+    let answer = case
+        .input
+        .as_bytes()
+        .answer(case.result_size, Mutation::None);
     let before = Memory {
-        layer: Guarded::new(&case.text, case.salt),
+        input: lent(&case.input, case.salt),
         result: Guarded::filled(case.result_size, case.salt / 3),
     };
     let expected = demanded(before.clone(), &answer);
@@ -45,8 +49,18 @@ pub fn compare(subject: Subject, case: &Case) -> Result<Answer, String> {
     }
 }
 
+fn lent(input: &Input<Vec<u8>>, salt: u64) -> Input<Guarded> {
+    match input {
+        Input::Layer(text) => Input::Layer(Guarded::new(text, salt)),
+        Input::Stream { settings, stream } => Input::Stream {
+            settings: Guarded::new(settings, salt / 5),
+            stream: Guarded::new(stream, salt),
+        },
+    }
+}
+
 fn observe(mut memory: Memory, subject: Subject) -> Outcome {
-    let returned = subject.call(&mut memory.layer, &mut memory.result);
+    let returned = subject.call(&mut memory.input, &mut memory.result);
     Outcome { returned, memory }
 }
 
@@ -71,8 +85,10 @@ fn faults(expected: &Outcome, observed: &Outcome) -> Option<String> {
     if let Some(at) = found.result.first_difference(&right.result) {
         faults.push(format!("the result buffer differs from byte {at} on"));
     }
-    if let Some(at) = found.layer.first_difference(&right.layer) {
-        faults.push(format!("the layer was changed from byte {at} on"));
+    for ((name, right), (_, found)) in right.input.parts().iter().zip(found.input.parts()) {
+        if let Some(at) = found.first_difference(right) {
+            faults.push(format!("the {name} was changed from byte {at} on"));
+        }
     }
     (!faults.is_empty()).then(|| faults.join("; "))
 }
@@ -86,16 +102,6 @@ impl Outcome {
         };
         format!("{}\n{text}", self.returned)
     }
-}
-
-/// Bytes for people: what is not plain text is escaped, and a long text is cut.
-pub fn shown(text: &[u8]) -> String {
-    let cut = &text[..text.len().min(6_000)];
-    let rest = match text.len() - cut.len() {
-        0 => String::new(),
-        rest => format!("\n(and {rest} bytes more)\n"),
-    };
-    cut.escape_ascii().to_string().replace("\\n", "\n") + &rest
 }
 
 /// The number after a key of a result text.

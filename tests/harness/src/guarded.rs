@@ -1,8 +1,17 @@
 //! Memory that is lent to a call, with guard bytes on both sides.
 
 /// What lies around the bytes that are lent. A call that reads past an end meets something that
-/// could be part of a layer text, so that its answer changes.
-const SURROUNDINGS: [&[u8]; 4] = [b"0", b"\n", b"piece=1,2,3,4,5\n", b"\0\xff\x55"];
+/// could be part of a layer text or of a stream, so that its answer changes.
+const SURROUNDINGS: [&[u8]; 8] = [
+    b"0",
+    b"\n",
+    b"piece=1,2,3,4,5\n",
+    b"\0\xff\x55",
+    b"\0",
+    b"\0\x04\x04\0",
+    b"\0\x04\x07\0\0\x04\x04\0",
+    b"\0\x04\x11\0\0\x04\x07\0\0\x04\x04\0",
+];
 
 const GUARD: usize = 64;
 
@@ -16,8 +25,8 @@ pub struct Guarded {
 impl Guarded {
     /// `salt` chooses what lies around the bytes, and how they are aligned.
     pub fn new(inside: &[u8], salt: u64) -> Guarded {
-        let around = SURROUNDINGS[(salt % 4) as usize];
-        let start = GUARD + (salt / 4 % 8) as usize;
+        let around = SURROUNDINGS[(salt % 8) as usize];
+        let start = GUARD + (salt / 8 % 8) as usize;
         let before = around.iter().rev().cycle().take(start);
         let mut bytes: Vec<u8> = before.copied().collect();
         bytes.reverse();
@@ -45,6 +54,12 @@ impl Guarded {
     /// All the bytes, with the guards, and where the lent part starts.
     pub fn all(&mut self) -> (&mut [u8], usize) {
         (&mut self.bytes, self.start)
+    }
+
+    /// Where the lent part starts, by a pointer that may go over the guards too, and its size.
+    pub fn lent(&mut self) -> (*mut u8, u64) {
+        let start = self.bytes.as_mut_ptr().wrapping_add(self.start);
+        (start, self.size as u64)
     }
 
     pub fn size(&self) -> usize {

@@ -4,12 +4,15 @@ mod check;
 mod compare;
 mod generate;
 mod guarded;
+mod input;
 mod layer;
 mod random;
 mod reference;
 mod rounds;
 mod selftest;
 mod shrink;
+mod shrink_stream;
+mod stream;
 mod subject;
 mod tally;
 mod vectors;
@@ -20,7 +23,7 @@ use std::thread::{self, JoinHandle};
 use std::time::Instant;
 
 use check::{Checker, Finding};
-use rounds::{limits, round};
+use rounds::{limits, round, stream_limits};
 use subject::Subject;
 
 /// The seed and the rounds of the gate.
@@ -91,6 +94,7 @@ fn selftest() -> Outcome {
 fn gate() -> Outcome {
     let mut checker = Checker::new(Subject::Library);
     limits(&mut checker).map_err(|finding| finding.report)?;
+    stream_limits(&mut checker).map_err(|finding| finding.report)?;
     for number in 0..ROUNDS {
         numbered_round(&mut checker, SEED, number)?;
     }

@@ -1,7 +1,11 @@
 //! The work of the gate, in rounds. A round depends on nothing but the seed and its number.
 
 use crate::check::{Checker, Finding};
-use crate::generate::{any_layer, any_size, at_limits, damaged, large_enough, lively, made};
+use crate::generate::{
+    any_layer, any_size, at_limits, damaged, damaged_stream, large_enough, lively, made,
+    streams_at_limits, whole_stream,
+};
+use crate::input::Input;
 use crate::layer::Layer;
 use crate::random::Random;
 use crate::reference::{self, Mutation};
@@ -19,7 +23,15 @@ const GREATEST_BUDGET: u64 = 200_000;
 /// What comes before all rounds: the ends of every range.
 pub fn limits(checker: &mut Checker) -> Result<(), Finding> {
     for text in at_limits() {
-        checker.text(Family::Limits, text, 4096)?;
+        checker.input(Family::Limits, Input::Layer(text), 4096)?;
+    }
+    Ok(())
+}
+
+/// The same for streams.
+pub fn stream_limits(checker: &mut Checker) -> Result<(), Finding> {
+    for (input, size) in streams_at_limits() {
+        checker.input(Family::StreamLimits, input, size)?;
     }
     Ok(())
 }
@@ -31,8 +43,13 @@ pub fn round(checker: &mut Checker, seed: u64, number: u64) -> Result<(), Findin
     }
     for _ in 0..64 {
         let (text, size) = (damaged(random), any_size(random));
-        checker.text(Family::Damaged, text, size)?;
+        checker.input(Family::Damaged, Input::Layer(text), size)?;
     }
+    for _ in 0..64 {
+        let (input, size) = (damaged_stream(random), any_size(random));
+        checker.input(Family::DamagedStreams, input, size)?;
+    }
+    stream(checker, random)?;
     for _ in 0..4 {
         larger(checker, random, 60, 20_000)?;
     }
@@ -76,6 +93,14 @@ fn larger(
     let count = random.between(11, most) as usize;
     let layer = any_layer(random, count);
     at_some_budget(checker, random, Family::Larger, &layer, greatest)
+}
+
+/// A stream of a layer of any kind.
+fn stream(checker: &mut Checker, random: &mut Random) -> Result<(), Finding> {
+    let count = random.of_any_size(512) as usize;
+    let layer = any_layer(random, count).with_budget(random.of_any_size(2_000));
+    let input = whole_stream(random, &layer);
+    checker.input(Family::Streams, input, large_enough(random))
 }
 
 fn made_layer(checker: &mut Checker, random: &mut Random) -> Result<(), Finding> {

@@ -69,7 +69,7 @@ fn without_piece(text: &[u8], line: usize) -> Option<Vec<u8>> {
 const MOST_RUNS: usize = 1_000;
 
 /// Leaves out as many items as it can, in runs of halving length.
-fn fewer<T: Clone>(items: &[T], differs: &dyn Fn(&[T]) -> bool) -> Vec<T> {
+pub fn fewer<T: Clone>(items: &[T], differs: &dyn Fn(&[T]) -> bool) -> Vec<T> {
     let mut items = items.to_vec();
     let mut run = items.len();
     while run > 0 && items.len() / run <= MOST_RUNS {

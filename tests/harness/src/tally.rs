@@ -11,9 +11,31 @@ pub enum Family {
     Larger,
     Made,
     Damaged,
+    StreamLimits,
+    Streams,
+    DamagedStreams,
 }
 
-const FAMILIES: [&str; 5] = ["limits", "small", "larger", "made", "damaged"];
+const FAMILIES: [&str; 8] = [
+    "limits",
+    "small",
+    "larger",
+    "made",
+    "damaged",
+    "stream limits",
+    "streams",
+    "damaged streams",
+];
+
+impl Family {
+    fn is_of_streams(self) -> bool {
+        self as usize >= Family::StreamLimits as usize
+    }
+}
+
+/// The refusals that a text can meet, and those that a stream can.
+const OF_TEXTS: [usize; 6] = [1, 2, 3, 4, 5, 6];
+const OF_STREAMS: [usize; 8] = [1, 2, 3, 4, 6, 9, 10, 11];
 
 #[derive(Default)]
 pub struct Tally {
@@ -24,8 +46,10 @@ pub struct Tally {
     searched: u64,
     /// Results with at least one stitch.
     stitched: u64,
-    /// Refusals by number; a text meets 1 to 6.
-    refused: [u64; 7],
+    /// Streams that were decomposed.
+    streams: u64,
+    /// Refusals by number, of texts and of streams.
+    refused: [[u64; 12]; 2],
     /// Layers whose cost was compared with that of all assignments.
     pub least: u64,
 }
@@ -39,8 +63,14 @@ impl Tally {
     pub fn count(&mut self, family: Family, answer: Option<&Answer>) {
         self.families[family as usize] += 1;
         match answer {
-            Some(Ok(text)) => self.count_result(text),
-            Some(Err(refusal)) => self.refused[refusal.number as usize] += 1,
+            Some(Ok(text)) => {
+                self.count_result(text);
+                self.streams += u64::from(family.is_of_streams());
+            }
+            Some(Err(refusal)) => {
+                let of = usize::from(family.is_of_streams());
+                self.refused[of][refusal.number as usize] += 1;
+            }
             None => {}
         }
     }
@@ -63,11 +93,11 @@ impl Tally {
             self.searched,
             self.stitched,
             self.least,
+            self.streams,
         ];
-        let mut all = counts
-            .iter()
-            .chain(&self.families)
-            .chain(&self.refused[1..]);
+        let texts = OF_TEXTS.map(|number| self.refused[0][number]);
+        let streams = OF_STREAMS.map(|number| self.refused[1][number]);
+        let mut all = (counts.iter().chain(&self.families)).chain(texts.iter().chain(&streams));
         all.all(|&count| count > 0)
     }
 
@@ -76,19 +106,23 @@ impl Tally {
         let families: Vec<String> = (FAMILIES.iter().zip(self.families))
             .map(|(name, count)| format!("{name} {count}"))
             .collect();
-        let refused: Vec<String> = (1..7)
-            .map(|number| format!("{number}: {}", self.refused[number]))
-            .collect();
         format!(
-            "{} answers agree ({}); best {}, open {}, with steps {}, with stitches {}; refused {}; least cost of {} layers",
+            "{} answers agree ({}); best {}, open {}, with steps {}, with stitches {}; texts refused {}; streams decomposed {}, refused {}; least cost of {} layers",
             self.cases(),
             families.join(", "),
             self.best,
             self.open,
             self.searched,
             self.stitched,
-            refused.join(", "),
+            counts(&OF_TEXTS, &self.refused[0]),
+            self.streams,
+            counts(&OF_STREAMS, &self.refused[1]),
             self.least
         )
     }
+}
+
+fn counts(numbers: &[usize], refused: &[u64]) -> String {
+    let count = |&number: &usize| format!("{number}: {}", refused[number]);
+    numbers.iter().map(count).collect::<Vec<_>>().join(", ")
 }

@@ -1,20 +1,26 @@
-//! Stored layers and scores, through the reference and, for layers, through the library.
+//! Stored layers, streams and scores, through the reference and, but for scores, the library.
 
 use std::ffi::OsStr;
 use std::fs;
 use std::path::{Path, PathBuf};
 
-use crate::compare::{compare, shown, Case};
+use crate::compare::{compare, Case};
+use crate::input::{shown, Input};
 use crate::reference::{self, Answer, Mutation, Refusal};
 use crate::subject::Subject;
 
 /// How many results and scores of the first folder agree, or what is different about one that
-/// does not. Their layers are in any of the folders.
+/// does not. Their layers are in any of the folders; a stream and its settings stand beside the
+/// result.
 pub fn vectors(folders: &[&Path]) -> Result<String, String> {
-    let (mut results, mut scores) = (0, 0);
+    let (mut results, mut streams, mut scores) = (0, 0, 0);
     for stored in files(folders[0])? {
         let expected = read(&stored)?;
         match stored.extension().and_then(OsStr::to_str) {
+            Some("result") if stored.with_extension("gds").exists() => {
+                check_stream(&stored, &expected)?;
+                streams += 1;
+            }
             Some("result") => {
                 check_result(&layer_of(&stored, folders)?, &expected)?;
                 results += 1;
@@ -26,9 +32,11 @@ pub fn vectors(folders: &[&Path]) -> Result<String, String> {
             _ => {}
         }
     }
-    match results + scores {
+    match results + streams + scores {
         0 => Err(String::from("no results and no scores are stored there")),
-        _ => Ok(format!("{results} results and {scores} scores agree")),
+        _ => Ok(format!(
+            "results of {results} layers and {streams} streams, and {scores} scores agree"
+        )),
     }
 }
 
@@ -55,14 +63,26 @@ fn read(path: &Path) -> Result<Vec<u8>, String> {
 }
 
 fn check_result(layer: &Path, expected: &[u8]) -> Result<(), String> {
+    check(layer, Input::Layer(read(layer)?), expected)
+}
+
+fn check_stream(stored: &Path, expected: &[u8]) -> Result<(), String> {
+    let input = Input::Stream {
+        settings: read(&stored.with_extension("settings"))?,
+        stream: read(&stored.with_extension("gds"))?,
+    };
+    check(stored, input, expected)
+}
+
+fn check(path: &Path, input: Input<Vec<u8>>, expected: &[u8]) -> Result<(), String> {
     let case = Case {
-        text: read(layer)?,
+        input,
         result_size: 4096,
         salt: 0,
     };
     let answer = compare(Subject::Library, &case)
-        .map_err(|fault| format!("{}: library and reference: {fault}", layer.display()))?;
-    same(layer, &printed(answer), expected)
+        .map_err(|fault| format!("{}: library and reference: {fault}", path.display()))?;
+    same(path, &printed(answer), expected)
 }
 
 /// Scores go through the reference only: the library's call does not score.

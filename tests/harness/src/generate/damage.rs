@@ -61,7 +61,7 @@ fn whole_text(random: &mut Random) -> Vec<u8> {
 }
 
 /// Adds a piece that overlaps another one of its shape and sticks out of it.
-fn overlap(random: &mut Random, layer: &mut Layer) {
+pub fn overlap(random: &mut Random, layer: &mut Layer) {
     if !layer.pieces.is_empty() {
         let mut piece = random.pick(&layer.pieces);
         piece.x2 += 1;
@@ -78,7 +78,7 @@ fn is_short_work(text: &[u8]) -> bool {
     }
 }
 
-fn with_fault(random: &mut Random, mut text: Vec<u8>) -> Vec<u8> {
+pub fn with_fault(random: &mut Random, mut text: Vec<u8>) -> Vec<u8> {
     match random.below(32) {
         0..=2 => change_byte(random, &mut text),
         3..=5 => remove_byte(random, &mut text),

@@ -60,7 +60,7 @@ fn around(least: u64, greatest: u64) -> Vec<u64> {
 }
 
 /// Squares in a row, each in conflict with the next.
-fn row(count: u64) -> Layer {
+pub fn row(count: u64) -> Layer {
     let square = |shape| Piece {
         shape: shape % 512,
         x1: 40 * shape,

@@ -1,4 +1,4 @@
-//! Layers and texts to compare on. Everything comes from the random numbers that are handed in.
+//! Layers, texts and streams to compare on. Everything comes from the random numbers that are handed in.
 
 mod cluster;
 mod crossings;
@@ -6,6 +6,7 @@ mod damage;
 mod limits;
 mod lively;
 mod made;
+mod streams;
 mod tiles;
 mod wires;
 
@@ -15,6 +16,7 @@ pub use damage::damaged;
 pub use limits::at_limits;
 pub use lively::lively;
 pub use made::made;
+pub use streams::{damaged_stream, streams_at_limits, whole_stream};
 
 /// A layer of at most `count` pieces, of one of four kinds, with a budget of 0.
 pub fn any_layer(random: &mut Random, count: usize) -> Layer {

@@ -6,19 +6,27 @@
 mod edges;
 mod mutation;
 mod peel;
+mod polygon;
 mod read;
+mod records;
 mod score;
 mod search;
+mod stream;
+#[cfg(test)]
+mod stream_tests;
 #[cfg(test)]
 mod tests;
+mod units;
 
 use crate::layer::Layer;
 use edges::Graph;
 pub use mutation::Mutation;
 pub use read::read;
 pub use score::{least_cost, score, Score};
+pub use stream::read_stream;
 
-/// Why a call is refused (RULES 11). The place is a line, a piece, or 0 for nothing.
+/// Why a call is refused (RULES 11). The place is a line, a piece, a record of a stream, or 0
+/// for nothing.
 #[derive(Clone, Copy, Debug, PartialEq, Eq)]
 pub struct Refusal {
     pub number: u64,
@@ -47,12 +55,33 @@ const RESULT_ROOM: usize = 4096;
 
 /// The job loader's call (RULES 12): a layer text in, its result text out.
 pub fn answer(text: &[u8], result_size: usize, wrong: Mutation) -> Answer {
-    let room = RESULT_ROOM - usize::from(wrong == Mutation::BufferOneShorter);
-    if result_size < room {
-        return Err(Refusal::new(1, 0));
-    }
+    judge_room(result_size, wrong)?;
     let layer = read(text, wrong)?;
     Ok(result_text(&run(&layer, wrong)))
+}
+
+/// Its call on a stream: a settings text and a stream in, the result text out.
+pub fn answer_stream(
+    settings: &[u8],
+    stream: &[u8],
+    result_size: usize,
+    wrong: Mutation,
+) -> Answer {
+    let room = judge_room(result_size, wrong);
+    if wrong != Mutation::RoomLate {
+        room?;
+    }
+    let layer = read_stream(settings, stream, wrong)?;
+    room?;
+    Ok(result_text(&run(&layer, wrong)))
+}
+
+/// Question 1.
+fn judge_room(result_size: usize, wrong: Mutation) -> Result<(), Refusal> {
+    if result_size < RESULT_ROOM - usize::from(wrong == Mutation::BufferOneShorter) {
+        return Err(Refusal::new(1, 0));
+    }
+    Ok(())
 }
 
 /// The whole decomposition of a valid layer (RULES 4 to 7).

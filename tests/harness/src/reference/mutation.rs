@@ -63,11 +63,119 @@ pub enum Mutation {
     WriteBeforeBuffer,
     /// A byte of the layer is changed.
     LayerChanged,
+
+    /// A settings text may have one byte more.
+    SettingsOneLonger,
+    /// A stream may have one byte more.
+    StreamOneLonger,
+    /// The size of a stream is judged after the settings text.
+    StreamSizeLate,
+    /// The buffer of a call on a stream is judged after all that is read.
+    RoomLate,
+    /// The records are judged before the settings text.
+    StreamBeforeSettings,
+    /// A settings text may state pieces; none are read.
+    SettingsCountAny,
+    /// The count of a settings text is judged after the text behind it.
+    SettingsCountLate,
+    /// A settings text may have anything behind its lines.
+    TextAfterSettings,
+
+    /// Records are counted from 0.
+    RecordsFromZero,
+    /// A record that is missing or cut short has the number of the one before.
+    CutNamesLast,
+    /// A record may have more data than is due.
+    LongerData,
+    /// The length of a record may be odd.
+    OddLengths,
+    /// The data type of a record is not looked at.
+    DataTypeIgnored,
+    /// Optional records of the manual are left out.
+    OptionalSkipped,
+    /// The name of a library must have a byte.
+    NameNeeded,
+    /// A property may have any number.
+    AnyAttribute,
+    /// Anything may follow ENDLIB.
+    BytesAfterEnd,
+    /// Only the first byte after ENDLIB must be zero.
+    FirstByteAfterEnd,
+    /// Bytes after ENDLIB have the number of ENDLIB.
+    EndNamed,
+
+    /// A unit by one part of its fraction too large is let through.
+    UnitOneAbove,
+    /// A unit by one part of its fraction too small is let through.
+    UnitOneBelow,
+    /// The unit is judged in floating point.
+    UnitByFloat,
+    /// The unit must be the floating point number next to a nanometre.
+    UnitEqual,
+    /// The fraction of the unit must be normalised.
+    UnitNormalised,
+    /// The sign of the unit is left out.
+    UnitSignLost,
+    /// The first real of UNITS is judged.
+    FirstReal,
+    /// The unit is judged after the other records.
+    UnitLate,
+
+    /// Coordinates have their lowest byte first.
+    LittleEndian,
+    /// A rectangle must begin at its lowest corner.
+    LeastCornerFirst,
+    /// A rectangle must go round against the clock.
+    OneWayRound,
+    /// The last point need not be the first.
+    OpenPath,
+    /// Sides need not be along the axes.
+    SlantedSides,
+    /// A path there and back on two sides is a rectangle.
+    ThereAndBack,
+    /// Another number of points is refusal 10.
+    OtherPointsNoRectangle,
+    /// A negative coordinate is refusal 10.
+    NegativeNoRectangle,
+    /// A negative coordinate is refused before later records are looked at.
+    NegativeAtOnce,
+    /// The sign of a coordinate is left out.
+    CoordinateSignLost,
+
+    /// A shape number may have zeros before it.
+    LeadingZeros,
+    /// A shape number without digits is 0.
+    NoDigitIsZero,
+    /// Zero bytes are left out wherever they stand in a shape number.
+    FillersSkipped,
+    /// A shape number out of its range is refusal 9.
+    ShapeInRecord,
+    /// Shape numbers wrap at 32 bits.
+    ShapeWrapsAt32Bits,
+    /// Shape numbers wrap at 64 bits.
+    ShapeWrapsAt64Bits,
+    /// A stream may have 513 elements.
+    PiecesOneMore,
+    /// The number of pieces is judged after the pieces.
+    CountLate,
+    /// Pieces that are out of range are counted from 1.
+    PiecesFromOne,
+    /// A piece that overlaps an earlier one is refused before the ranges of later ones are judged.
+    OverlapAtOnce,
+
+    /// A byte of the settings text is changed.
+    SettingsChanged,
+    /// A byte of the stream is changed.
+    StreamChanged,
+    /// A zero byte is written after the result of a stream.
+    StreamResultEnded,
+    /// A refused stream clears the buffer.
+    StreamRefusalCleared,
 }
 
 impl Mutation {
-    /// All faults.
-    pub const FAULTS: [Mutation; 27] = [
+    /// Faults that a layer text shows.
+    pub const OF_LAYERS: [Mutation; 27] = [
         Mutation::ConflictAtSpacing,
         Mutation::StitchAboveMargin,
         Mutation::SquaresIn32Bits,
@@ -95,5 +203,60 @@ impl Mutation {
         Mutation::ClearedOnRefusal,
         Mutation::WriteBeforeBuffer,
         Mutation::LayerChanged,
+    ];
+
+    /// Faults that only a stream shows.
+    pub const OF_STREAMS: [Mutation; 51] = [
+        Mutation::SettingsOneLonger,
+        Mutation::StreamOneLonger,
+        Mutation::StreamSizeLate,
+        Mutation::RoomLate,
+        Mutation::StreamBeforeSettings,
+        Mutation::SettingsCountAny,
+        Mutation::SettingsCountLate,
+        Mutation::TextAfterSettings,
+        Mutation::RecordsFromZero,
+        Mutation::CutNamesLast,
+        Mutation::LongerData,
+        Mutation::OddLengths,
+        Mutation::DataTypeIgnored,
+        Mutation::OptionalSkipped,
+        Mutation::NameNeeded,
+        Mutation::AnyAttribute,
+        Mutation::BytesAfterEnd,
+        Mutation::FirstByteAfterEnd,
+        Mutation::EndNamed,
+        Mutation::UnitOneAbove,
+        Mutation::UnitOneBelow,
+        Mutation::UnitByFloat,
+        Mutation::UnitEqual,
+        Mutation::UnitNormalised,
+        Mutation::UnitSignLost,
+        Mutation::FirstReal,
+        Mutation::UnitLate,
+        Mutation::LittleEndian,
+        Mutation::LeastCornerFirst,
+        Mutation::OneWayRound,
+        Mutation::OpenPath,
+        Mutation::SlantedSides,
+        Mutation::ThereAndBack,
+        Mutation::OtherPointsNoRectangle,
+        Mutation::NegativeNoRectangle,
+        Mutation::NegativeAtOnce,
+        Mutation::CoordinateSignLost,
+        Mutation::LeadingZeros,
+        Mutation::NoDigitIsZero,
+        Mutation::FillersSkipped,
+        Mutation::ShapeInRecord,
+        Mutation::ShapeWrapsAt32Bits,
+        Mutation::ShapeWrapsAt64Bits,
+        Mutation::PiecesOneMore,
+        Mutation::CountLate,
+        Mutation::PiecesFromOne,
+        Mutation::OverlapAtOnce,
+        Mutation::SettingsChanged,
+        Mutation::StreamChanged,
+        Mutation::StreamResultEnded,
+        Mutation::StreamRefusalCleared,
     ];
 }

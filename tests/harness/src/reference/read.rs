@@ -1,11 +1,12 @@
-//! The layer text and the questions that it must pass (RULES 9 and 11).
+//! The layer text, with pieces or as the settings of a stream, and the questions that it must pass
+//! (RULES 9 and 11).
 
 use super::edges::is_overlap;
 use super::mutation::Mutation;
 use super::Refusal;
 use crate::layer::{Layer, Piece, Settings};
 
-const LONGEST_TEXT: usize = 32_768;
+pub const LONGEST_TEXT: usize = 32_768;
 
 /// Both ends belong to a range.
 type Range = (u64, u64);
@@ -20,22 +21,14 @@ const SHAPE: Range = (0, 511);
 const COORDINATE: Range = (0, 1_000_000);
 const PIECE: [Range; 5] = [SHAPE, COORDINATE, COORDINATE, COORDINATE, COORDINATE];
 
+/// How many pieces a settings text states.
+const NO_PIECES: Range = (0, 0);
+
 pub fn read(text: &[u8], wrong: Mutation) -> Result<Layer, Refusal> {
-    if text.len() > LONGEST_TEXT + usize::from(wrong == Mutation::TextOneLonger) {
-        return Err(Refusal::new(2, 0));
-    }
-    let mut lines = Lines {
-        rest: text,
-        line: 0,
-        wrong,
-    };
-    let settings = Settings {
-        masks: lines.number("masks=", MASKS)?,
-        spacing: lines.number("spacing=", SPACING)?,
-        margin: lines.number("margin=", MARGIN)?,
-        weight: lines.number("weight=", WEIGHT)?,
-        budget: lines.number("budget=", BUDGET)?,
-    };
+    let longest = LONGEST_TEXT + usize::from(wrong == Mutation::TextOneLonger);
+    judge_size(text, longest)?;
+    let mut lines = Lines::of(text, wrong);
+    let settings = lines.settings()?;
     let mut pieces = Vec::new();
     for _ in 0..lines.number("pieces=", PIECES)? {
         pieces.push(lines.piece()?);
@@ -48,8 +41,34 @@ pub fn read(text: &[u8], wrong: Mutation) -> Result<Layer, Refusal> {
     Ok(Layer { settings, pieces })
 }
 
-/// Question 6: names the first piece that overlaps an earlier one of its shape.
-fn judge_overlaps(pieces: &[Piece], wrong: Mutation) -> Result<(), Refusal> {
+/// A layer text without pieces, as it stands beside a stream.
+pub fn read_settings(text: &[u8], wrong: Mutation) -> Result<Settings, Refusal> {
+    let mut lines = Lines::of(text, wrong);
+    let settings = lines.settings()?;
+    match wrong {
+        Mutation::SettingsCountAny => drop(lines.number("pieces=", PIECES)?),
+        Mutation::SettingsCountLate => {
+            let count = lines.number("pieces=", NO_PIECES);
+            lines.end()?;
+            count?;
+        }
+        _ => drop(lines.number("pieces=", NO_PIECES)?),
+    }
+    if wrong != Mutation::TextAfterSettings {
+        lines.end()?;
+    }
+    Ok(settings)
+}
+
+pub fn judge_size(text: &[u8], longest: usize) -> Result<(), Refusal> {
+    if text.len() > longest {
+        return Err(Refusal::new(2, 0));
+    }
+    Ok(())
+}
+
+/// Question 6: names the lowest piece that overlaps one before it, of its shape.
+pub fn judge_overlaps(pieces: &[Piece], wrong: Mutation) -> Result<(), Refusal> {
     for (later, piece) in pieces.iter().enumerate() {
         let earlier = pieces[..later].iter().position(|p| is_overlap(p, piece));
         if let Some(earlier) = earlier {
@@ -72,6 +91,25 @@ struct Lines<'a> {
 }
 
 impl<'a> Lines<'a> {
+    fn of(text: &'a [u8], wrong: Mutation) -> Lines<'a> {
+        Lines {
+            rest: text,
+            line: 0,
+            wrong,
+        }
+    }
+
+    /// The first five lines.
+    fn settings(&mut self) -> Result<Settings, Refusal> {
+        Ok(Settings {
+            masks: self.number("masks=", MASKS)?,
+            spacing: self.number("spacing=", SPACING)?,
+            margin: self.number("margin=", MARGIN)?,
+            weight: self.number("weight=", WEIGHT)?,
+            budget: self.number("budget=", BUDGET)?,
+        })
+    }
+
     fn number(&mut self, key: &str, range: Range) -> Result<u64, Refusal> {
         Ok(self.numbers(key, &[range])?[0])
     }
@@ -144,7 +182,7 @@ fn numbers_after(key: &str, line: &[u8], wrong: Mutation) -> Option<Vec<u64>> {
 }
 
 /// The value of some digits; one that is too large for 64 bits is as large as they allow.
-fn number(digits: &[u8], wrong: Mutation) -> Option<u64> {
+pub fn number(digits: &[u8], wrong: Mutation) -> Option<u64> {
     let leading_zero = digits.len() > 1 && digits[0] == b'0';
     if digits.is_empty() || leading_zero || !digits.iter().all(u8::is_ascii_digit) {
         return None;

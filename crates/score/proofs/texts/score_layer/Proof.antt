@@ -2,6 +2,7 @@
 use borrow.Author.Needs.{needs}
 use mathlib.Core.Path.{sym}
 use Rattle.rules.specs.Questions.{readLayer}
+use Rattle.rules.proofs.Reading.{read-valid}
 use Rattle.text.proofs.HandedLayers.{WasRead, handed-refused, handed-read, read-few}
 use Rattle.score.proofs.TextScores.{score-read}
 use Rattle.score.proofs.texts.score_layer.Statement.{statement}
@@ -26,7 +27,7 @@ layer : (c : tie.After-enum-told) → let read = c .before .before in WasRead (r
 layer c = handed-read (readLayer _) _ (c .before .before .read-layer .ensures) (c .enum-told .given .1)
 
 flatten-requires : tie.Need-flatten-requires
-flatten-requires c κs = read-few _ (layer (c .before .before))
+flatten-requires c κs = read-few (readLayer _) (read-valid _) (layer (c .before .before))
 
 score-flat-requires : tie.Need-score-flat-requires
 score-flat-requires c κs = search needs

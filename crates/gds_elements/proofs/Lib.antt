@@ -1,0 +1,4 @@
+-- Laws of elements.
+pub mod AlikeLaws
+pub mod ElementLaws
+pub mod CollectLaws
