@@ -1,4 +1,4 @@
-// The start of a file, as much as a buffer has room for.
+// The start of a file, as much as a buffer has room for. The programs `layer` and `score` stand on this crate.
 ghost use Rattle.io.specs.Counts.{Counts};
 
 // Whether a file was read, and how many of its bytes are at the start of the buffer.
