@@ -1,7 +1,7 @@
 /*
  * Libraries with one fault each, to see that the test program notices it. Every call goes through here (ld --wrap) and on to
- * the library. A macro says what is done to it; without one, nothing is. Those that begin with STREAM are for the second
- * function.
+ * the library. A macro says what is done to it; without one, nothing is. With SECOND the fault is one of the second function,
+ * else of the first.
  */
 #include <errno.h>
 #include <sched.h>
@@ -10,6 +10,10 @@
 
 #include "hezgolt.h"
 
+#ifndef SECOND
+#define SECOND 0
+#endif
+
 uint64_t __real_hezgolt_decompose(const uint8_t *layer, uint64_t layer_size, uint8_t *result, uint64_t result_size);
 uint64_t __wrap_hezgolt_decompose(const uint8_t *layer, uint64_t layer_size, uint8_t *result, uint64_t result_size);
 uint64_t __real_hezgolt_decompose_stream(const uint8_t *settings, uint64_t settings_size, const uint8_t *stream,
@@ -17,208 +21,182 @@ uint64_t __real_hezgolt_decompose_stream(const uint8_t *settings, uint64_t setti
 uint64_t __wrap_hezgolt_decompose_stream(const uint8_t *settings, uint64_t settings_size, const uint8_t *stream,
                                          uint64_t stream_size, uint8_t *result, uint64_t result_size);
 
+/* A call of either function: the bytes are a layer text or a stream, and only a stream has settings. */
+struct call {
+    const uint8_t *settings;
+    uint64_t settings_size;
+    const uint8_t *bytes;
+    uint64_t size;
+    uint8_t *result;
+    uint64_t result_size;
+};
+
+static uint64_t pass_on(struct call call)
+{
+    if (call.settings != NULL)
+        return __real_hezgolt_decompose_stream(call.settings, call.settings_size, call.bytes, call.size, call.result,
+                                               call.result_size);
+    return __real_hezgolt_decompose(call.bytes, call.size, call.result, call.result_size);
+}
+
+/* The most bytes that a call may be given. */
+#define MOST (SECOND ? HEZGOLT_STREAM_MOST : HEZGOLT_LAYER_MOST)
+
 #if defined STACK
 /* With the 458 KiB of the call, this is more than a thread is told to have. */
-static uint64_t deeper(const uint8_t *layer, uint64_t layer_size, uint8_t *result, uint64_t result_size)
+static uint64_t deeper(struct call call)
 {
     volatile uint8_t deep[800 * 1024];
 
     for (size_t i = 0; i < sizeof deep; i += 1024)
         deep[i] = 0;
-    return __real_hezgolt_decompose(layer, layer_size, result, result_size) + deep[0];
+    return pass_on(call) + deep[0];
 }
-#define __real_hezgolt_decompose deeper
+#define pass_on deeper
 #endif
 
 #if defined STATE
 /* All calls write to one buffer first. */
-static uint64_t with_state(const uint8_t *layer, uint64_t layer_size, uint8_t *result, uint64_t result_size)
+static uint64_t with_state(struct call call)
 {
     static uint8_t state[HEZGOLT_RESULT_LEAST];
+    uint8_t *result = call.result;
     uint64_t answer;
 
-    if (result_size < sizeof state)
+    if (call.result_size < sizeof state)
         return HEZGOLT_REFUSED;
-    answer = __real_hezgolt_decompose(layer, layer_size, state, sizeof state);
+    call.result = state;
+    call.result_size = sizeof state;
+    answer = pass_on(call);
     sched_yield();
     if (answer < HEZGOLT_REFUSED)
         memcpy(result, state, answer);
     return answer;
 }
-#define __real_hezgolt_decompose with_state
+#define pass_on with_state
 #endif
 
+#if defined SEVEN_BITS || defined SIGN
+/* The call gets a copy: without the highest bit of each byte; or without the sign of the unit, where UNITS stands behind a name
+ * of eight bytes. */
+static uint64_t of_a_copy(struct call call)
+{
+    static uint8_t copy[HEZGOLT_STREAM_MOST];
+
+    if (call.size <= MOST) {
+        memcpy(copy, call.bytes, call.size);
 #if defined SEVEN_BITS
-/* The highest bit of each byte is left out. */
-static uint64_t in_seven_bits(const uint8_t *layer, uint64_t layer_size, uint8_t *result, uint64_t result_size)
-{
-    static uint8_t text[HEZGOLT_LAYER_MOST];
-
-    for (size_t i = 0; i < layer_size && i < sizeof text; i++)
-        text[i] = layer[i] & 0x7F;
-    return __real_hezgolt_decompose(layer_size > sizeof text ? layer : text, layer_size, result, result_size);
+        for (size_t i = 0; i < call.size; i++)
+            copy[i] &= 0x7F;
+#else
+        if (call.size > 58 && copy[48] == 0x03)
+            copy[58] &= 0x7F;
+#endif
+        call.bytes = copy;
+    }
+    return pass_on(call);
 }
-#define __real_hezgolt_decompose in_seven_bits
+#define pass_on of_a_copy
 #endif
 
-uint64_t __wrap_hezgolt_decompose(const uint8_t *layer, uint64_t layer_size, uint8_t *result, uint64_t result_size)
+/* What is done before the call. A call that it answers is not passed on. */
+static int before(struct call *call, uint64_t *answer)
 {
-    uint64_t answer;
-
 #if defined ORDER /* Question 2 before question 1. */
-    if (layer_size > HEZGOLT_LAYER_MOST)
-        return 2 * HEZGOLT_REFUSED;
+    *answer = 2 * HEZGOLT_REFUSED;
+    return call->size > MOST;
 #elif defined READ_BEHIND
-    if (*(const volatile uint8_t *)(layer + layer_size) == 1)
-        return 0;
-#elif defined COPY_BEHIND
-    static uint8_t text[HEZGOLT_LAYER_MOST + 1];
-
-    if (layer_size < sizeof text)
-        memcpy(text, layer, layer_size + 1);
+    *answer = 0;
+    return *(const volatile uint8_t *)(call->bytes + call->size) == 1;
+#elif defined READ_SETTINGS_BEHIND
+    *answer = 0;
+    return *(const volatile uint8_t *)(call->settings + call->settings_size) == 1;
 #elif defined READ_BEFORE
-    if (*(const volatile uint8_t *)(layer - 1) == 1)
-        return 0;
-#elif defined WRITE_LAYER /* As it was. */
-    if (layer_size > 0)
-        *(volatile uint8_t *)(uintptr_t)layer = layer[0];
+    *answer = 0;
+    return *(const volatile uint8_t *)(call->bytes - 1) == 1
+           || (SECOND && *(const volatile uint8_t *)(call->settings - 1) == 1);
+#elif defined COPY_BEHIND
+    static uint8_t copy[HEZGOLT_STREAM_MOST + 1];
+
+    if (call->size < MOST + 1)
+        memcpy(copy, call->bytes, call->size + 1);
+#elif defined WRITE /* As it was. */
+    if (call->size > 0)
+        *(volatile uint8_t *)(uintptr_t)call->bytes = call->bytes[0];
+#elif defined WRITE_SETTINGS /* The same. */
+    if (call->settings_size > 0)
+        *(volatile uint8_t *)(uintptr_t)call->settings = call->settings[0];
 #elif defined SIZE_16_BITS
-    layer_size = (uint16_t)layer_size;
+    call->size = (uint16_t)call->size;
+#elif defined SETTINGS_16_BITS
+    call->settings_size = (uint16_t)call->settings_size;
 #elif defined ZERO_ENDS /* A zero byte ends the layer text. */
-    if (memchr(layer, 0, layer_size) != NULL && layer_size <= HEZGOLT_LAYER_MOST)
-        layer_size = (uint64_t)((const uint8_t *)memchr(layer, 0, layer_size) - layer);
+    if (call->size <= MOST && memchr(call->bytes, 0, call->size) != NULL)
+        call->size = (uint64_t)((const uint8_t *)memchr(call->bytes, 0, call->size) - call->bytes);
+#elif defined NO_ZEROS /* Zero bytes after the records are left out. */
+    while (call->size > 0 && call->size <= MOST && call->bytes[call->size - 1] == 0)
+        call->size--;
+#elif defined NO_SETTINGS /* A settings text without its end counts as empty. */
+    if (call->settings_size > 0 && call->settings_size <= HEZGOLT_LAYER_MOST && call->settings[call->settings_size - 1] != '\n')
+        call->settings_size = 0;
 #endif
-    answer = __real_hezgolt_decompose(layer, layer_size, result, result_size);
+    (void)call;
+    (void)answer;
+    return 0;
+}
+
+/* What is done after it. */
+static uint64_t after(struct call call, uint64_t answer)
+{
 #if defined END_RESULT /* By a zero byte. */
     if (answer < HEZGOLT_RESULT_LEAST)
-        result[answer] = 0;
+        call.result[answer] = 0;
 #elif defined LENGTH
     if (answer < HEZGOLT_REFUSED)
         answer++;
 #elif defined MASK /* The masks of two pieces changed places. */
-    if (answer < HEZGOLT_REFUSED && memcmp(result + answer - 14, "mask=0\nmask=1\n", 14) == 0)
-        memcpy(result + answer - 14, "mask=1\nmask=0\n", 14);
+    if (answer < HEZGOLT_REFUSED && memcmp(call.result + answer - 14, "mask=0\nmask=1\n", 14) == 0)
+        memcpy(call.result + answer - 14, "mask=1\nmask=0\n", 14);
 #elif defined WRITE_REFUSED
-    if (answer >= HEZGOLT_REFUSED && result_size > 0)
-        result[result_size - 1] = 0;
+    if (answer >= HEZGOLT_REFUSED && call.result_size > 0)
+        call.result[call.result_size - 1] = 0;
 #elif defined ERRNO
     if (answer >= HEZGOLT_REFUSED)
         errno = EINVAL;
 #elif defined MISSING_LINE /* The last line there is, for a line that is missing. */
-    if (answer == 3 * HEZGOLT_REFUSED + 2 && layer_size == 8)
+    if (answer == 3 * HEZGOLT_REFUSED + 2 && call.size == 8)
+        answer--;
+#elif defined MISSING_RECORD /* The last record there is, for a record that is missing. */
+    if (answer == 9 * HEZGOLT_REFUSED + 2 && call.size == 6)
         answer--;
 #endif
+    (void)call;
     return answer;
 }
 
-#if defined STREAM_STACK
-/* As above. */
-static uint64_t stream_deeper(const uint8_t *settings, uint64_t settings_size, const uint8_t *stream, uint64_t stream_size,
-                              uint8_t *result, uint64_t result_size)
+static uint64_t faulty(struct call call)
 {
-    volatile uint8_t deep[800 * 1024];
-
-    for (size_t i = 0; i < sizeof deep; i += 1024)
-        deep[i] = 0;
-    return __real_hezgolt_decompose_stream(settings, settings_size, stream, stream_size, result, result_size) + deep[0];
-}
-#define __real_hezgolt_decompose_stream stream_deeper
-#endif
-
-#if defined STREAM_STATE
-/* All calls write to one buffer first. */
-static uint64_t stream_with_state(const uint8_t *settings, uint64_t settings_size, const uint8_t *stream, uint64_t stream_size,
-                                  uint8_t *result, uint64_t result_size)
-{
-    static uint8_t state[HEZGOLT_RESULT_LEAST];
     uint64_t answer;
 
-    if (result_size < sizeof state)
-        return HEZGOLT_REFUSED;
-    answer = __real_hezgolt_decompose_stream(settings, settings_size, stream, stream_size, state, sizeof state);
-    sched_yield();
-    if (answer < HEZGOLT_REFUSED)
-        memcpy(result, state, answer);
-    return answer;
+    if (before(&call, &answer))
+        return answer;
+    return after(call, pass_on(call));
 }
-#define __real_hezgolt_decompose_stream stream_with_state
-#endif
 
-#if defined STREAM_SIGN
-/* The sign of the unit is left out, where UNITS stands behind a name of eight bytes. */
-static uint64_t without_sign(const uint8_t *settings, uint64_t settings_size, const uint8_t *stream, uint64_t stream_size,
-                             uint8_t *result, uint64_t result_size)
+/* The function without the fault goes straight to the library. */
+#undef pass_on
+
+uint64_t __wrap_hezgolt_decompose(const uint8_t *layer, uint64_t layer_size, uint8_t *result, uint64_t result_size)
 {
-    static uint8_t copy[HEZGOLT_STREAM_MOST];
+    struct call call = {NULL, 0, layer, layer_size, result, result_size};
 
-    if (stream_size > 58 && stream_size <= sizeof copy && stream[48] == 0x03) {
-        memcpy(copy, stream, stream_size);
-        copy[58] &= 0x7F;
-        stream = copy;
-    }
-    return __real_hezgolt_decompose_stream(settings, settings_size, stream, stream_size, result, result_size);
+    return SECOND ? pass_on(call) : faulty(call);
 }
-#define __real_hezgolt_decompose_stream without_sign
-#endif
 
 uint64_t __wrap_hezgolt_decompose_stream(const uint8_t *settings, uint64_t settings_size, const uint8_t *stream,
                                          uint64_t stream_size, uint8_t *result, uint64_t result_size)
 {
-    uint64_t answer;
+    struct call call = {settings, settings_size, stream, stream_size, result, result_size};
 
-#if defined STREAM_ORDER /* Question 2 before question 1. */
-    if (stream_size > HEZGOLT_STREAM_MOST)
-        return 2 * HEZGOLT_REFUSED;
-#elif defined STREAM_READ_BEHIND
-    if (*(const volatile uint8_t *)(stream + stream_size) == 1)
-        return 0;
-#elif defined STREAM_READ_SETTINGS_BEHIND
-    if (*(const volatile uint8_t *)(settings + settings_size) == 1)
-        return 0;
-#elif defined STREAM_COPY_BEHIND
-    static uint8_t copy[HEZGOLT_STREAM_MOST + 1];
-
-    if (stream_size < sizeof copy)
-        memcpy(copy, stream, stream_size + 1);
-#elif defined STREAM_READ_BEFORE
-    if (*(const volatile uint8_t *)(stream - 1) == 1 || *(const volatile uint8_t *)(settings - 1) == 1)
-        return 0;
-#elif defined STREAM_WRITE /* As it was. */
-    if (stream_size > 0)
-        *(volatile uint8_t *)(uintptr_t)stream = stream[0];
-#elif defined STREAM_WRITE_SETTINGS /* The same. */
-    if (settings_size > 0)
-        *(volatile uint8_t *)(uintptr_t)settings = settings[0];
-#elif defined STREAM_SIZE_16_BITS
-    stream_size = (uint16_t)stream_size;
-#elif defined STREAM_SETTINGS_16_BITS
-    settings_size = (uint16_t)settings_size;
-#elif defined STREAM_NO_ZEROS /* Zero bytes after the records are left out. */
-    while (stream_size > 0 && stream_size <= HEZGOLT_STREAM_MOST && stream[stream_size - 1] == 0)
-        stream_size--;
-#elif defined STREAM_NO_SETTINGS /* A settings text without its end counts as empty. */
-    if (settings_size > 0 && settings_size <= HEZGOLT_LAYER_MOST && settings[settings_size - 1] != '\n')
-        settings_size = 0;
-#endif
-    answer = __real_hezgolt_decompose_stream(settings, settings_size, stream, stream_size, result, result_size);
-#if defined STREAM_END_RESULT /* By a zero byte. */
-    if (answer < HEZGOLT_RESULT_LEAST)
-        result[answer] = 0;
-#elif defined STREAM_LENGTH
-    if (answer < HEZGOLT_REFUSED)
-        answer++;
-#elif defined STREAM_MASK /* The masks of two pieces changed places. */
-    if (answer < HEZGOLT_REFUSED && memcmp(result + answer - 14, "mask=0\nmask=1\n", 14) == 0)
-        memcpy(result + answer - 14, "mask=1\nmask=0\n", 14);
-#elif defined STREAM_WRITE_REFUSED
-    if (answer >= HEZGOLT_REFUSED && result_size > 0)
-        result[result_size - 1] = 0;
-#elif defined STREAM_ERRNO
-    if (answer >= HEZGOLT_REFUSED)
-        errno = EINVAL;
-#elif defined STREAM_MISSING_RECORD /* The last record there is, for a record that is missing. */
-    if (answer == 9 * HEZGOLT_REFUSED + 2 && stream_size == 6)
-        answer--;
-#endif
-    return answer;
+    return SECOND ? faulty(call) : pass_on(call);
 }

@@ -1,7 +1,7 @@
 // Runs the worked cases of RULES 13 through the calls, and reports of each whether it came out as stated there: those that are stored as
 // texts, and the gaps and contacts.
 ghost use Prim.Native.Nat.{_<_};
-ghost use Rattle.io.specs.Counts.{Counts};
+use files::read_file;
 use libc::STDOUT_FILENO;
 use rules::Edge;
 use rules::EdgeAnswer;
@@ -90,26 +90,14 @@ fn run_case(name: &[u8], text: &[u8], buffer: &mut [u8], wanted: &[u8]) {
     }
 }
 
-// Reads a file as far as there is room, and answers how many bytes it has.
-fn read_file(path: &[u8], text: &mut [u8]) -> usize
-    ensures { λ r. ⌜ Counts r (now (text .exit)) ⌝ }
-{
-    let fd = os::open_read(path);
-    if fd < 0 {
-        os::fail(path);
-        return 0;
-    }
-    let n = io::read_full(fd, text);
-    libc::close(fd);
-    n
-}
-
 fn run_files(layer: &[u8], result: &[u8]) {
     let mut text = io::large_buffer();
     let mut wanted = io::buffer();
     let mut buffer = io::buffer();
-    let n = read_file(layer, &mut text);
-    let m = read_file(result, &mut wanted);
+    let text_read = read_file(layer, &mut text);
+    let wanted_read = read_file(result, &mut wanted);
+    let n = text_read.bytes;
+    let m = wanted_read.bytes;
     run_case(layer, &text[..n], &mut buffer, &wanted[..m]);
 }
 
@@ -124,7 +112,7 @@ fn run_arguments(i: usize)
     run_files(&layer[..n], &result[..m]);
 }
 
-fn files() {
+fn texts() {
     let pairs = os::arg_count() / 2;
     let mut k = 0;
     while k < pairs {
@@ -197,6 +185,6 @@ fn edges() {
 }
 
 fn main() {
-    files();
+    texts();
     edges();
 }

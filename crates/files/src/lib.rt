@@ -1,4 +1,5 @@
-// The start of a file, as much as a buffer has room for. The programs `layer` and `score` stand on this crate.
+// The start of a file, as much as a buffer has room for. The programs `layer`, `score` and `cases` stand on this
+// crate.
 ghost use Rattle.io.specs.Counts.{Counts};
 
 // Whether a file was read, and how many of its bytes are at the start of the buffer.
@@ -40,7 +41,8 @@ fn read_all(fd: i32, buffer: &mut [u8]) -> FileRead
     }
 }
 
-// Reads the start of a file. Where that fails, standard error has the reason. Which bytes were read, no contract can say.
+// Reads the start of a file. Where that fails, standard error has the reason. Whether it fails, and which bytes are read, is the system's
+// to say.
 pub fn read_file(path: &[u8], buffer: &mut [u8]) -> FileRead
     ensures { λ r. ⌜ Counts (r .bytes) (now (buffer .exit)) ⌝ }
 {

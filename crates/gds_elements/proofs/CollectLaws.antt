@@ -14,7 +14,7 @@ use Rattle.rules.specs.Questions.{Outcome, done, refused, andThen}
 use Rattle.rules.specs.Stream.{boundary, isDue, Element, ElementRead, readElement, ElementsRead, readElements, noElement}
 use Rattle.rules.proofs.Tests.{lt-or-ge}
 use Rattle.gds_elements.specs.Elements.{Alike, ElementIs, Collected}
-use Rattle.gds_records.proofs.RecordLaws.{formed}
+use Rattle.stream_theory.proofs.StreamRecords.{formed}
 
 -- elements in front of others
 abbrev ahead : List Element → Outcome ElementsRead → Outcome ElementsRead

@@ -1,53 +1,26 @@
 -- Records: what a record of a form has, and how several are passed one after the other. Assumes nothing.
-use mathlib.Core.Bool.{Bool, true, false, _&&_}
+use mathlib.Core.Bool.{true, false}
 use mathlib.Core.List.{List}
 use mathlib.Core.Path.{_≡_, refl, sym, ap, ap₂, _∙_}
 use Prim.Native.Nat.{ℕ, suc, _+_, _-_, _%_, _≤_, _<_, zero-le}
 use native.Mathlib.Numerals.{add-one}
 use native.Mathlib.Omega.{arith}
-use lib.Dec.{eqb, leb}
+use lib.Dec.{eqb}
 use lib.ListN.{length, getD, take, drop, length-drop}
 use lib.Seq.{length-take-le, drop-drop}
-use borrow.Author.Tests.{leb-true, eqb-true, le-leb, eq-eqb}
+use borrow.Author.Tests.{le-leb, eq-eqb}
 use Rattle.rules.specs.declared.refusal.Place.{Place}
 use Rattle.rules.specs.declared.refusal.Refusal.{Refusal}
 use Rattle.rules.specs.Answers.{refusalNumber}
 use Rattle.rules.specs.Questions.{done, refused}
-use Rattle.rules.specs.Settings.{within}
 use Rattle.rules.specs.Stream.{Due, recordSize, isDue, readRecord, passRecords}
-use Rattle.rules.proofs.Ranges.{within-facts}
-use Rattle.rules.proofs.Tests.{by-test, both}
+use Rattle.rules.proofs.Tests.{by-test}
+use Rattle.stream_theory.proofs.StreamRecords.{Formed, formed}
 use Rattle.gds_records.specs.declared.kinds.Kind.{Kind}
 use Rattle.gds_records.specs.Kinds.{dueOf, nextOf, duesFrom, formOf, dueFrom}
 use Rattle.gds_records.specs.Records.{Room, Whole, Passed}
 
 -- ---- One record
-
-pub record Formed (due : Due) (bytes : List ℕ) : Type 0 where
-  pub fits : recordSize bytes ≤ length bytes
-  pub low : 4 + due .least ≤ recordSize bytes
-  pub high : recordSize bytes ≤ 4 + due .greatest
-  pub even : recordSize bytes % 2 ≡ 0
-  pub kind : getD bytes 2 0 ≡ due .recordType
-  pub form : getD bytes 3 0 ≡ due .dataType
-
-pub formed : (due : Due) (bytes : List ℕ) → isDue due bytes ≡ true → Formed due bytes
-unfolding isDue
-formed due bytes e =
-    let size = recordSize bytes in
-    let h4 = both _ (eqb (getD bytes 3 0) (due .dataType)) e in
-    let h3 = both _ (eqb (getD bytes 2 0) (due .recordType)) (h4 .0) in
-    let h2 = both _ (eqb (size % 2) 0) (h3 .0) in
-    let h1 = both (leb size (length bytes)) (within (4 + due .least) (4 + due .greatest) size) (h2 .0) in
-    let range = within-facts (4 + due .least) (4 + due .greatest) size (h1 .1) in
-    record {
-      fits = leb-true size (length bytes) (h1 .0);
-      low = range .low;
-      high = range .high;
-      even = eqb-true (size % 2) 0 (h2 .1);
-      kind = eqb-true (getD bytes 2 0) (due .recordType) (h3 .1);
-      form = eqb-true (getD bytes 3 0) (due .dataType) (h4 .1);
-    }
 
 pub not-formed : (due : Due) (bytes : List ℕ) → (Formed due bytes → ⊥) → false ≡ isDue due bytes
 not-formed due bytes wrong = by-test (isDue due bytes) (λ t. absurd (wrong (formed due bytes t))) λ f. sym f

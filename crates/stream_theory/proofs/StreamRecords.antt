@@ -21,26 +21,36 @@ use Rattle.rules.proofs.Tests.{both}
 
 -- ---- Records
 
--- what is true of a record that is due and whole
-pub record Whole (due : Due) (bytes : List ℕ) : Type 0 where
-  pub there : recordSize bytes ≤ length bytes
-  pub least : 4 + due .least ≤ recordSize bytes
-  pub most : recordSize bytes ≤ 4 + due .greatest
+-- what is true where the bytes start with a whole record that is due
+pub record Formed (due : Due) (bytes : List ℕ) : Type 0 where
+  pub fits : recordSize bytes ≤ length bytes
+  pub low : 4 + due .least ≤ recordSize bytes
+  pub high : recordSize bytes ≤ 4 + due .greatest
   pub even : recordSize bytes % 2 ≡ 0
+  pub kind : getD bytes 2 0 ≡ due .recordType
+  pub form : getD bytes 3 0 ≡ due .dataType
 
-pub due-whole : (due : Due) (bytes : List ℕ) → isDue due bytes ≡ true → Whole due bytes
+pub formed : (due : Due) (bytes : List ℕ) → isDue due bytes ≡ true → Formed due bytes
 unfolding isDue
-due-whole due bytes e =
-    let p = both _ (eqb (getD bytes 3 0) (due .dataType)) e .0 in
-    let q = both _ (eqb (getD bytes 2 0) (due .recordType)) p .0 in
-    let r = both _ (eqb (recordSize bytes % 2) 0) q in
-    let s = both (leb (recordSize bytes) (length bytes)) (within (4 + due .least) (4 + due .greatest) (recordSize bytes)) (r .0) in
-    let w = within-facts (4 + due .least) (4 + due .greatest) (recordSize bytes) (s .1) in
-    record { there = leb-true _ _ (s .0); least = w .low; most = w .high; even = eqb-true _ _ (r .1) }
+formed due bytes e =
+    let size = recordSize bytes in
+    let h4 = both _ (eqb (getD bytes 3 0) (due .dataType)) e in
+    let h3 = both _ (eqb (getD bytes 2 0) (due .recordType)) (h4 .0) in
+    let h2 = both _ (eqb (size % 2) 0) (h3 .0) in
+    let h1 = both (leb size (length bytes)) (within (4 + due .least) (4 + due .greatest) size) (h2 .0) in
+    let range = within-facts (4 + due .least) (4 + due .greatest) size (h1 .1) in
+    record {
+      fits = leb-true size (length bytes) (h1 .0);
+      low = range .low;
+      high = range .high;
+      even = eqb-true (size % 2) 0 (h2 .1);
+      kind = eqb-true (getD bytes 2 0) (due .recordType) (h3 .1);
+      form = eqb-true (getD bytes 3 0) (due .dataType) (h4 .1);
+    }
 
 -- what is true of a record that passes: its data and the bytes after it are all but its first four bytes
 pub record Passed (due : Due) (bytes : List ℕ) (r : RecordRead) : Type 0 where
-  pub whole : Whole due bytes
+  pub whole : Formed due bytes
   pub parts : 4 + length (r .bytes) + length (r .rest) ≡ length bytes
   pub even : length (r .bytes) % 2 ≡ 0
   pub least : due .least ≤ length (r .bytes)
@@ -52,13 +62,13 @@ unfolding readRecord
 record-ends due k bytes r9 r =
     ends-then (ends-ask (isDue due bytes) 9 _ r9) λ _ e.
     ends-then (ends-ask (due .right (recordOf bytes .bytes)) (due .number) _ r) λ _ f.
-    let w = due-whole due bytes e in
-    let d : length (recordOf bytes .bytes) + 4 ≡ recordSize bytes = omega (arith, w .there, w .least, length-take (recordSize bytes - 4) (drop 4 bytes), length-drop 4 bytes) in
+    let w = formed due bytes e in
+    let d : length (recordOf bytes .bytes) + 4 ≡ recordSize bytes = omega (arith, w .fits, w .low, length-take (recordSize bytes - 4) (drop 4 bytes), length-drop 4 bytes) in
     accepts (record {
       whole = w;
-      parts = omega (arith, w .there, length-drop (recordSize bytes) bytes);
+      parts = omega (arith, w .fits, length-drop (recordSize bytes) bytes);
       even = omega (arith, w .even);
-      least = omega (arith, w .least);
+      least = omega (arith, w .low);
       right = f;
     })
 

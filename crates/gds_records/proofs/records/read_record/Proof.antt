@@ -6,7 +6,8 @@ use mathlib.Core.Bool.{true}
 use mathlib.Core.Path.{_≡_, sym, _∙_}
 use Rattle.rules.specs.Stream.{isDue}
 use Rattle.gds_records.specs.Kinds.{dueOf}
-use Rattle.gds_records.proofs.RecordLaws.{formed, not-due, has-room, not-right, is-right}
+use Rattle.stream_theory.proofs.StreamRecords.{formed}
+use Rattle.gds_records.proofs.RecordLaws.{not-due, has-room, not-right, is-right}
 use Rattle.gds_records.proofs.records.read_record.Statement.{statement}
 use Rattle.gds_records.proofs.records.read_record.Tie as tie
 

@@ -1,9 +1,9 @@
--- `files`: the arguments of each pair are there to be asked for. Assumes nothing.
+-- `texts`: the arguments of each pair are there to be asked for. Assumes nothing.
 use borrow.Author.Needs.{needs}
 use native.Mathlib.Omega.{arith}
 use Prim.Native.Nat.{_-_, _≤_}
-use Rattle.cases.proofs.files.Statement.{statement}
-use Rattle.cases.proofs.files.Tie as tie
+use Rattle.cases.proofs.texts.Statement.{statement}
+use Rattle.cases.proofs.texts.Tie as tie
 
 abbrev Inv-loop : tie.InvT-loop
 Inv-loop pairs k₀ k = (k ≤ pairs) × (pairs ≤ 9223372036854775807)
@@ -38,8 +38,8 @@ loop-again c = omega arith
 returns : tie.Need-returns Inv-loop μ-loop
 returns c = omega arith
 
-pub files-spec : {M : Type 1} → statement M
-files-spec =
+pub texts-spec : {M : Type 1} → statement M
+texts-spec =
     tie.close
     (tie.spec
     Inv-loop
