@@ -1,7 +1,6 @@
 -- Coordinates of four bytes, with and without their sign: two are the same either way. Assumes nothing.
-use mathlib.Core.Bool.{Bool, true, false}
-use mathlib.Core.Path.{_≡_, refl, sym, ap, _∙_}
-use Prim.Native.Nat.{ℕ, _-_, _≤_, _<_}
+use mathlib.Core.Path.{_≡_, sym, ap}
+use Prim.Native.Nat.{ℕ, _-_, _<_}
 use native.Mathlib.Omega.{arith}
 use lib.Dec.{eqb, ltb}
 use borrow.Author.Tests.{ltb-true, ltb-false, eq-eqb, ne-eqb, eqb-true}

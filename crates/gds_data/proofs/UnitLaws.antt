@@ -1,7 +1,7 @@
 -- The unit over whole numbers. At exponent 57 the fractions that pass are a range, whose bounds are computed; each exponent more is a factor of 16, and below 57
 -- the largest fraction is too small. Assumes nothing.
-use mathlib.Core.Bool.{Bool, true, false, not, _&&_}
-use mathlib.Core.Path.{_≡_, refl, sym, ap, subst, _∙_}
+use mathlib.Core.Bool.{Bool, true, false, _&&_}
+use mathlib.Core.Path.{_≡_, refl, sym, ap, _∙_}
 use Prim.Native.Nat.{ℕ, suc, _+_, _-_, _*_, _^_, _%_, _≤_, _<_}
 use native.Mathlib.Nat.{mul-assoc, mul-comm, mul-left-comm, mul-one, pow-suc, pow-le-pow-right, mul-le-mul-left, mul-lt-mul-of-pos-left, mul-lt-mul-of-pos-right, le-mul-of-pos-right, mod-eq-of-lt, lt-of-le-of-lt, lt-of-lt-of-le}
 use native.Mathlib.Omega.{arith}
@@ -9,7 +9,7 @@ use lib.Dec.{leb, lit<, lit≤}
 use lib.Pow.{pow-add}
 use borrow.Author.Tests.{leb-true, le-leb, lt-leb, leb-false}
 use Rattle.rules.specs.Settings.{within}
-use Rattle.rules.specs.Stream.{Real, isNanometre}
+use Rattle.rules.specs.Stream.{isNanometre}
 use Rattle.rules.proofs.Tests.{by-test, clash, same, and-right}
 
 -- the range at exponent 57

@@ -2,11 +2,13 @@
 // their sign: equal ones stay equal, and a negative one lies above every range.
 ghost use mathlib.Core.Bool.{_&&_};
 ghost use mathlib.Core.Path.{_≡_};
-ghost use Prim.Native.Nat.{_+_, _≤_, min, max};
+ghost use Prim.Native.Nat.{_+_, _≤_};
 ghost use lib.ListN.{length};
 ghost use Rattle.rules.specs.Stream.{signed32, pointAt, liesAt, isRectangle};
 ghost use Rattle.gds_data.specs.Rectangles.{pointFrom, cornerPiece};
 use crate::words::word32;
+use layout::greater;
+use layout::lesser;
 use rules::Piece;
 
 // Whether the point that starts at a byte lies at x and y.
@@ -53,18 +55,6 @@ pub fn is_rectangle(bytes: &[u8]) -> bool
         return true;
     }
     others_at(bytes, far_x, y, x, far_y)
-}
-
-fn lesser(a: u32, b: u32) -> u32
-    ensures { λ r. ⌜ r ≡ min a b ⌝ }
-{
-    if a < b { a } else { b }
-}
-
-fn greater(a: u32, b: u32) -> u32
-    ensures { λ r. ⌜ r ≡ max a b ⌝ }
-{
-    if a < b { b } else { a }
 }
 
 // The piece between the first point and the third.

@@ -11,7 +11,7 @@ use Rattle.rules.specs.declared.layer.Piece.{Piece}
 use Rattle.rules.specs.declared.refusal.Place.{Place}
 use Rattle.rules.specs.Settings.{noPiece, pieceAt}
 use Rattle.rules.specs.Questions.{Outcome, done, refused, andThen}
-use Rattle.rules.specs.Stream.{boundary, isDue, Element, ElementRead, readElement, ElementsRead, readElements, noElement}
+use Rattle.rules.specs.Stream.{boundary, isDue, Element, readElement, ElementsRead, readElements, noElement}
 use Rattle.rules.proofs.Tests.{lt-or-ge}
 use Rattle.gds_elements.specs.Elements.{Alike, ElementIs, Collected}
 use Rattle.stream_theory.proofs.StreamRecords.{formed}

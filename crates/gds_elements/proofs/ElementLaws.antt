@@ -1,19 +1,19 @@
 -- An element, one record after the other: where it is refused, and what was read. Assumes nothing.
 use mathlib.Core.List.{List, [], _∷_}
-use mathlib.Core.Path.{_≡_, refl, sym, ap, ap₂, subst, _∙_}
-use Prim.Native.Nat.{ℕ, _+_, _-_, _≤_, min}
+use mathlib.Core.Path.{_≡_, sym, ap, _∙_}
+use Prim.Native.Nat.{ℕ, _+_, _-_, min}
 use native.Mathlib.Nat.{add-comm}
 use native.Mathlib.Omega.{arith}
-use lib.ListN.{length, take, drop, length-drop}
+use lib.ListN.{take, drop, length-drop}
 use lib.Seq.{drop-drop}
 use Rattle.rules.specs.declared.layer.Piece.{Piece}
 use Rattle.rules.specs.declared.refusal.Place.{Place}
 use Rattle.rules.specs.Lines.{value}
-use Rattle.rules.specs.Questions.{Outcome, done, refused, andThen}
-use Rattle.rules.specs.Stream.{unfilled, xy, propvalue, endel, recordOf, RecordRead, readRecord, passRecords, Element, ElementRead, elementFrom, readProperty, readElement}
+use Rattle.rules.specs.Questions.{done, refused, andThen}
+use Rattle.rules.specs.Stream.{unfilled, xy, propvalue, endel, recordOf, readRecord, passRecords, elementFrom, readProperty, readElement}
 use Rattle.lines.specs.ReadLines.{cap}
 use Rattle.gds_records.specs.declared.kinds.Kind.{Kind}
-use Rattle.gds_records.specs.Kinds.{dueOf, duesFrom}
+use Rattle.gds_records.specs.Kinds.{duesFrom}
 use Rattle.gds_records.specs.Records.{Whole, Passed}
 use Rattle.gds_data.specs.Rectangles.{cornerPiece}
 use Rattle.gds_elements.specs.Elements.{readValue, PropertyRead, readFigure, ElementIs}

@@ -8,6 +8,8 @@ mod flat;
 mod judging;
 
 pub use adjacency::adjacency_words;
+pub use distance::greater;
+pub use distance::lesser;
 pub use edges::edge;
 pub use flat::flatten;
 pub use flat::put;

@@ -11,7 +11,7 @@ use Rattle.rules.specs.declared.refusal.Place.{Place}
 use Rattle.rules.specs.Basics.{anyOf}
 use Rattle.rules.specs.Settings.{within, countInRange}
 use Rattle.rules.specs.Lines.{isNumeral, value}
-use Rattle.rules.specs.Questions.{Outcome, done, refused, ask, andThen, askEach, judgePiece, judgeOverlaps, Layer, readHeader, isEmpty}
+use Rattle.rules.specs.Questions.{Outcome, done, ask, andThen, askEach, judgePiece, judgeOverlaps, Layer, readHeader, isEmpty}
 
 -- ---- Numbers in bytes, the highest byte first
 

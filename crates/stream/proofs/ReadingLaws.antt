@@ -1,7 +1,7 @@
 -- A stream read: the records after the elements, and the pieces judged as lent ones. Where every element's piece passes, it is the element's own piece, so both
 -- ways of judging come to the same layer. Assumes nothing.
-use mathlib.Core.Bool.{Bool, true, false, not, _||_}
-use mathlib.Core.List.{List, [], _∷_, _++_, map}
+use mathlib.Core.Bool.{true, false, not, _||_}
+use mathlib.Core.List.{List, [], _∷_, map}
 use mathlib.Core.Logic.{inl, inr}
 use mathlib.Core.Path.{_≡_, refl, sym, ap, subst, _∙_}
 use Prim.Native.Nat.{ℕ, _+_, _-_, _*_, _≤_, _<_, zero-le}
@@ -20,10 +20,10 @@ use Rattle.rules.specs.declared.answers.ReadAnswer.{ReadAnswer}
 use Rattle.rules.specs.Answers.{refusalNumber, readAnswer, inRecords}
 use Rattle.rules.specs.Basics.{anyOf}
 use Rattle.rules.specs.Settings.{noPiece, pieceInRange, hasArea, pieceAt}
-use Rattle.rules.specs.Questions.{Outcome, done, refused, ask, andThen, askEach, judgePiece, judgeOverlaps, Layer, layerFrom}
-use Rattle.rules.specs.Stream.{endstr, endlib, front, passRecords, Element, ElementsRead, readElements, readStreamElements, readSettings, readStream, pieceOf, noElement, judgeElement, judgeElements}
+use Rattle.rules.specs.Questions.{Outcome, done, refused, ask, andThen, askEach, judgePiece, judgeOverlaps, layerFrom}
+use Rattle.rules.specs.Stream.{endstr, endlib, front, passRecords, Element, readElements, readStreamElements, readSettings, readStream, pieceOf, noElement, judgeElement, judgeElements}
 use Rattle.rules.proofs.Outcomes.{accepted, each-ext, ends-each, then-same, then-assoc}
-use Rattle.rules.proofs.Tests.{by-test, lt-or-ge}
+use Rattle.rules.proofs.Tests.{lt-or-ge}
 use Rattle.rules.proofs.Validity.{judged-piece}
 use Rattle.layout.specs.Flat as layout
 use Rattle.layout.specs.Flat.{piecesOf}
@@ -31,7 +31,7 @@ use Rattle.layout.proofs.PieceLaws.{pieces-length, piece-of}
 use Rattle.gds_records.specs.declared.kinds.Kind.{Kind}
 use Rattle.gds_records.specs.Kinds.{duesFrom}
 use Rattle.gds_records.specs.Records.{Passed}
-use Rattle.gds_elements.specs.Elements.{Alike, Collected, CollectedTold}
+use Rattle.gds_elements.specs.Elements.{Collected, CollectedTold}
 use Rattle.stream.specs.Reading.{readTail, readBody, Held, HeldTold, judgedRecords, judgedElements, readPiecesWith, readWith}
 
 -- ---- Bytes other than zero

@@ -1,25 +1,19 @@
 -- The settings text: the six lines, no pieces, nothing after them. Assumes nothing.
-use mathlib.Core.Bool.{true}
-use mathlib.Core.List.{List, [], _∷_}
-use mathlib.Core.Path.{_≡_, refl, sym, ap, _∙_}
+use mathlib.Core.List.{List}
+use mathlib.Core.Path.{_≡_, sym, ap, _∙_}
 use Prim.Native.Nat.{ℕ, _≤_, _<_}
 use native.Mathlib.Omega.{arith}
-use lib.Dec.{eqb}
 use lib.ListN.{length, drop, length-drop}
 use borrow.Author.Tests.{eq-eqb, ne-eqb}
 use Rattle.rules.specs.declared.layer.Settings.{Settings}
 use Rattle.rules.specs.declared.refusal.Place.{Place}
 use Rattle.rules.specs.declared.refusal.Refusal.{Refusal}
 use Rattle.rules.specs.Answers.{refusalNumber}
-use Rattle.rules.specs.Questions.{done, refused, isEmpty, HeaderRead, readHeader}
+use Rattle.rules.specs.Questions.{done, refused, isEmpty, readHeader}
 use Rattle.rules.specs.Stream.{readSettings}
 use Rattle.text.specs.declared.header.HeaderAnswer.{HeaderAnswer}
 use Rattle.text.specs.Header.{headerAnswer, HeaderFound}
-use Rattle.text.proofs.LayerReading.{not-empty}
-
-nothing-left : (bytes : List ℕ) → length bytes ≡ 0 → isEmpty bytes ≡ true
-nothing-left [] e = refl
-nothing-left (b ∷ bytes) e = absurd (omega arith)
+use Rattle.text.proofs.LayerReading.{not-empty, nothing}
 
 module _ (text : List ℕ) (r : HeaderAnswer) (f : HeaderFound text r) where
   pub header-stops : (q : Refusal) (place : Place) → r ≡ HeaderAnswer.Refused q place → refused (refusalNumber q) place ≡ readSettings text
@@ -41,4 +35,4 @@ module _ (text : List ℕ) (r : HeaderAnswer) (f : HeaderFound text r) where
 
       pub has-settings : length text ≤ bytes → done s ≡ readSettings text
       unfolding readSettings
-      has-settings all = sym (rw (read, eq-eqb count 0 none, nothing-left (drop bytes text) (omega (arith, length-drop bytes text))))
+      has-settings all = sym (rw (read, eq-eqb count 0 none, ap isEmpty (nothing (drop bytes text) (omega (arith, length-drop bytes text)))))

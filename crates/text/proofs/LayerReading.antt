@@ -41,7 +41,7 @@ pub not-empty : (text : List ℕ) → 0 < length text → isEmpty text ≡ false
 not-empty [] h = absurd (omega arith)
 not-empty (b ∷ text) h = refl
 
-nothing : (text : List ℕ) → length text ≡ 0 → text ≡ []
+pub nothing : (text : List ℕ) → length text ≡ 0 → text ≡ []
 nothing [] h = refl
 nothing (b ∷ text) h = absurd (omega arith)
 

@@ -1,6 +1,5 @@
 -- `piece_from`: the lesser and the greater of both. Assumes nothing.
 use borrow.Author.Needs.{needs}
-use mathlib.Core.Path.{_≡_}
 use Rattle.gds_data.proofs.rectangle.piece_from.Statement.{statement}
 use Rattle.gds_data.proofs.rectangle.piece_from.Tie as tie
 

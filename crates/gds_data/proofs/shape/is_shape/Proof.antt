@@ -1,6 +1,5 @@
 -- `is_shape`: a shape was read exactly where the digits are a numeral. Assumes nothing.
 use borrow.Author.Needs.{needs}
-use mathlib.Core.Path.{sym, _∙_}
 use Rattle.gds_data.specs.Shapes.{shapeOf}
 use Rattle.gds_data.proofs.ShapeLaws.{is-shape, no-shape}
 use Rattle.gds_data.proofs.shape.is_shape.Statement.{statement}

@@ -1,8 +1,6 @@
 -- `read_shape`: digits to the last one state a shape. Assumes nothing.
 use borrow.Author.Needs.{needs}
-use native.Mathlib.Omega.{arith}
-use mathlib.Core.Path.{_≡_, sym, _∙_}
-use lib.ListN.{length, take}
+use mathlib.Core.Path.{sym, _∙_}
 use lib.Seq.{length-take-le}
 use Rattle.gds_data.specs.Shapes.{shapeOf}
 use Rattle.gds_data.proofs.ShapeLaws.{shape-bad, shape-part, shape-whole}

@@ -1,6 +1,5 @@
 -- `shape_number`: a numeral has a number. Assumes nothing.
 use borrow.Author.Needs.{needs}
-use mathlib.Core.Path.{sym, _∙_}
 use Rattle.gds_data.specs.Shapes.{shapeOf}
 use Rattle.gds_data.proofs.ShapeLaws.{shape-told, never-bad}
 use Rattle.gds_data.proofs.shape.shape_number.Statement.{statement}

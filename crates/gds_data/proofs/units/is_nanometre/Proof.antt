@@ -1,7 +1,7 @@
 -- `is_nanometre`: too small, with a sign, or in the range. Assumes nothing.
 use borrow.Author.Needs.{needs}
 use native.Mathlib.Omega.{arith}
-use mathlib.Core.Path.{_≡_, sym, ap, _∙_}
+use mathlib.Core.Path.{sym, ap, _∙_}
 use Prim.Native.Nat.{ℕ, _-_, _*_, _^_}
 use lib.ListN.{getD}
 use Rattle.rules.specs.Stream.{realAt}

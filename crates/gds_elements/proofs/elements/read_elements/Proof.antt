@@ -1,17 +1,15 @@
 -- `read_elements`: one element after the other; the measure is what is left of the bytes. Assumes nothing.
 use borrow.Author.Needs.{needs}
-use borrow.Author.Tests.{not-true, not-false}
 use native.Mathlib.Omega.{arith}
-use mathlib.Core.Bool.{true, false}
 use mathlib.Core.List.{List}
 use mathlib.Core.Logic.{inl, inr}
-use mathlib.Core.Path.{_≡_, sym, ap, subst, _∙_}
+use mathlib.Core.Path.{_≡_, sym, subst, _∙_}
 use Prim.Native.Nat.{ℕ, _+_, _-_, _*_}
 use lib.ListN.{length, drop, length-drop}
 use Rattle.lines.proofs.NumberParts.{part-from}
 use Rattle.rules.specs.Stream.{boundary, isDue, readElement}
 use Rattle.gds_elements.specs.Elements.{ElementTold}
-use Rattle.gds_elements.proofs.CollectLaws.{SoFar, Stored, kept, left, none-yet, stops-here, one-further, collected}
+use Rattle.gds_elements.proofs.CollectLaws.{SoFar, kept, left, none-yet, stops-here, one-further, collected}
 use Rattle.gds_elements.proofs.elements.read_elements.Statement.{statement}
 use Rattle.gds_elements.proofs.elements.read_elements.Tie as tie
 

@@ -2,10 +2,9 @@
 use borrow.Author.Needs.{needs}
 use native.Mathlib.Omega.{arith}
 use mathlib.Core.List.{List}
-use mathlib.Core.Path.{_≡_, refl, sym, subst, _∙_}
-use Prim.Native.Nat.{ℕ, _+_, _-_}
-use lib.ListN.{length, take, drop, length-take, length-drop}
-use lib.Seq.{length-take-le}
+use mathlib.Core.Path.{subst, _∙_}
+use Prim.Native.Nat.{ℕ, _-_}
+use lib.ListN.{drop, length-drop}
 use Rattle.lines.proofs.NumberParts.{part-from}
 use Rattle.gds_records.specs.declared.kinds.Kind.{Kind}
 use Rattle.gds_records.specs.Records.{PassTold}

@@ -1,13 +1,12 @@
 -- `pass_records`: the first record, and the others after it; the measure is how many are left. Assumes nothing.
 use mathlib.Core.List.{List}
-use mathlib.Core.Path.{_≡_, subst, subst⁻¹}
+use mathlib.Core.Path.{subst, subst⁻¹}
 use Prim.Native.Nat.{ℕ, _+_, _-_, _<_}
 use native.Mathlib.Omega.{arith}
 use borrow.Author.Needs.{needs}
 use lib.ListN.{length, take, drop, length-drop}
 use Rattle.lines.proofs.NumberParts.{part-from}
 use Rattle.gds_records.specs.declared.kinds.Kind.{Kind}
-use Rattle.gds_records.specs.declared.records.Part.{Part}
 use Rattle.gds_records.specs.Kinds.{nextOf}
 use Rattle.gds_records.specs.Records.{RecordTold, PassTold}
 use Rattle.gds_records.proofs.RecordLaws.{pass-none, stops, passes, stops-later}

@@ -1,7 +1,6 @@
 -- `has_form`: one part after the other; the length in the first two bytes is the record's. Assumes nothing.
 use borrow.Author.Needs.{needs}
 use native.Mathlib.Omega.{arith}
-use mathlib.Core.Path.{sym}
 use Rattle.gds_records.proofs.RecordLaws.{not-formed, is-formed}
 use Rattle.gds_records.proofs.records.has_form.Statement.{statement}
 use Rattle.gds_records.proofs.records.has_form.Tie as tie

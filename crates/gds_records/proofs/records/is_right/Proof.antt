@@ -1,7 +1,7 @@
 -- `is_right`: each kind's own question; the others have none. Assumes nothing.
 use borrow.Author.Needs.{needs}
 use native.Mathlib.Omega.{arith}
-use mathlib.Core.Path.{sym, subst, ap, _∙_}
+use mathlib.Core.Path.{subst, ap}
 use lib.Dec.{eqb}
 use lib.ListN.{length}
 use Prim.Native.Nat.{ℕ}

@@ -1,8 +1,6 @@
 -- `has_byte`: the bytes before i are zero. Assumes nothing.
-use borrow.Author.Needs.{needs}
 use native.Mathlib.Omega.{arith}
 use mathlib.Core.Path.{_≡_, refl, sym, ap, _∙_}
-use mathlib.Core.List.{List}
 use Prim.Native.Nat.{ℕ, _≤_, _-_}
 use lib.Dec.{ltb}
 use lib.ListN.{length, drop}

@@ -1,11 +1,9 @@
 -- `judge_records`: each piece, then overlaps. Assumes nothing.
 use borrow.Author.Needs.{needs}
-use native.Mathlib.Omega.{arith}
-use mathlib.Core.Path.{_≡_, sym, ap, subst, _∙_}
+use mathlib.Core.Path.{sym, ap, subst, _∙_}
 use Rattle.rules.specs.Answers.{HandedBack}
 use Rattle.rules.specs.Questions.{Outcome, Layer}
 use Rattle.layout.specs.Judged.{judgement}
-use Rattle.stream.specs.Reading.{judgedRecords}
 use Rattle.stream.proofs.ReadingLaws.{records-stop, records-pass}
 use Rattle.stream.proofs.read.judge_records.Statement.{statement}
 use Rattle.stream.proofs.read.judge_records.Tie as tie

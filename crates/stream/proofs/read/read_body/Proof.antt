@@ -2,11 +2,10 @@
 use borrow.Author.Needs.{needs}
 use native.Mathlib.Omega.{arith}
 use mathlib.Core.List.{List}
-use mathlib.Core.Path.{_≡_, sym, ap, subst, _∙_}
+use mathlib.Core.Path.{_≡_, subst}
 use Prim.Native.Nat.{ℕ, _+_, _-_, _*_}
-use lib.ListN.{length, drop, length-drop}
+use lib.ListN.{length}
 use Rattle.lines.proofs.NumberParts.{part-from}
-use Rattle.rules.specs.declared.answers.ReadAnswer.{ReadAnswer}
 use Rattle.rules.specs.Answers.{readAnswer}
 use Rattle.rules.specs.Stream.{readElements}
 use Rattle.gds_elements.specs.Elements.{CollectedTold}

@@ -1,10 +1,8 @@
 -- `read_stream`: both sizes, the settings, then the stream. Assumes nothing.
 use borrow.Author.Needs.{needs}
 use native.Mathlib.Omega.{arith}
-use mathlib.Core.List.{List}
-use mathlib.Core.Path.{_≡_, sym, ap, subst, _∙_}
-use Prim.Native.Nat.{ℕ, _+_, _-_, _*_}
-use lib.ListN.{length}
+use mathlib.Core.Path.{sym, ap, subst, _∙_}
+use Prim.Native.Nat.{_-_}
 use Rattle.rules.specs.Answers.{HandedBack}
 use Rattle.rules.specs.Questions.{Outcome, Layer}
 use Rattle.rules.specs.Answers.{settingsAnswer}

@@ -2,11 +2,9 @@
 use borrow.Author.Needs.{needs}
 use native.Mathlib.Omega.{arith}
 use mathlib.Core.List.{List}
-use mathlib.Core.Path.{_≡_, sym, ap, subst, _∙_}
-use Prim.Native.Nat.{ℕ, _+_, _-_, _*_}
-use mathlib.Core.Bool.{Bool}
+use mathlib.Core.Path.{_≡_, sym, subst, _∙_}
+use Prim.Native.Nat.{ℕ, _-_}
 use lib.Dec.{ltb}
-use lib.ListN.{length, drop, length-drop}
 use Rattle.lines.proofs.NumberParts.{part-from}
 use Rattle.rules.specs.Basics.{anyOf}
 use Rattle.gds_records.specs.declared.kinds.Kind.{Kind}

@@ -1,6 +1,5 @@
 -- `read_settings`: the six lines, no pieces, nothing after them. Assumes nothing.
 use borrow.Author.Needs.{needs}
-use native.Mathlib.Omega.{arith}
 use Rattle.stream.proofs.SettingsLaws.{header-stops, has-pieces, has-more, has-settings}
 use Rattle.stream.proofs.settings.read_settings.Statement.{statement}
 use Rattle.stream.proofs.settings.read_settings.Tie as tie
