@@ -1,5 +1,5 @@
-"""The decomposition graph of a layer (RULES 2), its core (RULES 4) and its components (RULES 5), so that a solver can be given each component
-by itself."""
+"""The decomposition graph of a layer without ties (RULES 2), its core (RULES 4) and its components (RULES 5), so that a solver can be given each
+component by itself."""
 from layers import MARGIN, SPACING
 
 
@@ -8,7 +8,10 @@ def is_conflict(a, b, ox, oy):
 
 
 def is_stitch(a, b, ox, oy):
-    return a[0] == b[0] and (oy if ox == 0 else ox if oy == 0 else 0) >= MARGIN
+    contact = (oy if ox == 0 else ox if oy == 0 else 0) if a[0] == b[0] else 0
+    if 0 < contact < MARGIN:
+        raise ValueError("tied pieces: a vertex here is a piece, not a unit")
+    return contact >= MARGIN
 
 
 def graph(pieces):

@@ -19,9 +19,14 @@ def made(seed, count):
     return pieces
 
 
-def wires(seed, count, pitch, gap):
+# How far a piece lies above or below the one before it where the two are tied: 9 nm are left to touch.
+OFFSET = 11
+
+
+def wires(seed, count, pitch, gap, tied=0):
     """Wires of 20 nm on four tracks, each cut into one to four pieces of 40 to 100 nm. Between two wires of a track there are 20 nm up to
-    the gap. The track that is the shortest so far gets the next wire."""
+    the gap. The track that is the shortest so far gets the next wire. Of four cuts, so many are tied on the average: the wire climbs or falls
+    there."""
     draw = draws(seed)
     ends = [0] * 4
     pieces = []
@@ -33,9 +38,21 @@ def wires(seed, count, pitch, gap):
             length = 40 + 20 * (next(draw) % 4)
             pieces.append((shape, x, y, x + length, y + 20))
             x += length
+            if tied and next(draw) % 4 < tied:
+                y = 2 * pitch * track + OFFSET - y
         ends[track] = x
         shape += 1
     return pieces[:count]
+
+
+def chain(count, stride=1):
+    """Squares of 20 nm of one shape, each tied to the next. The numbers of two that follow each other differ by the stride, which has no
+    common divisor with the count, so that a large one leaves them without order."""
+    pieces = [None] * count
+    for position in range(count):
+        x, y = 20 * position, OFFSET * (position % 2)
+        pieces[stride * position % count] = (0, x, y, x + 20, y + 20)
+    return pieces
 
 
 SPACING, MARGIN, WEIGHT = 80, 10, 10

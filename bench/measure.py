@@ -25,7 +25,12 @@ def stages(last, repeats, text):
     return spent([ROOT / "target/bin/stages"], f"stages={last},{repeats}\n{text}")
 
 
-WRITTEN, PRINTED = 7, 8
+WRITTEN, PRINTED = 8, 9
+
+
+def reference(text):
+    """The result text of the same decomposition in Rust."""
+    return spent([DATA / "reference", "lists", "text"], text)[0]
 
 
 def run(text):

@@ -1,15 +1,17 @@
 //! The decomposition of docs/RULES.md, sections 1 to 8, by hand and for speed: what the proved program is measured against.
 //!
 //!     reference FORM [MASKS SEED PIECES BUDGET]...
+//!     reference FORM text < LAYER
 //!
-//! Each four numbers ask for a made layer and its decomposition, and one line tells what came of it. FORM is the form of the search:
+//! Each four numbers ask for a made layer and its decomposition, and one line tells what came of it. With `text` the layer text on standard
+//! input is decomposed, which must be in order, and the result text is printed. FORM is the form of the search:
 //!
 //! - `lists`: a place that is reached sums up what each mask adds there, along the list of its earlier neighbours;
 //! - `push`: every place has these sums at all times, and a mask that is tried is added to those of the later neighbours, and taken
 //!   off again afterwards.
 
 use std::env;
-use std::io::{self, BufWriter, Write};
+use std::io::{self, BufWriter, Read, Write};
 
 const PIECES_GREATEST: usize = 512;
 const MASKS_GREATEST: usize = 8;
@@ -30,11 +32,12 @@ struct Piece {
     y2: i64,
 }
 
-// ---- edges (RULES 2)
+// ---- edges, ties and units (RULES 2)
 
 enum Edge {
     Conflict,
     Stitch,
+    Tie,
     None,
 }
 
@@ -58,13 +61,17 @@ fn edge(settings: &Settings, a: &Piece, b: &Piece) -> Edge {
     };
     if contact >= settings.margin {
         Edge::Stitch
+    } else if contact > 0 {
+        Edge::Tie
     } else {
         Edge::None
     }
 }
 
-/// The neighbours of each piece, in rising order.
+/// The units, and the neighbours of each in rising order, once for each edge. A piece that gives no unit its number has no neighbours.
 struct Graph {
+    /// The unit of each piece.
+    units: Vec<u16>,
     conflicts: Vec<Vec<u16>>,
     stitches: Vec<Vec<u16>>,
 }
@@ -72,28 +79,78 @@ struct Graph {
 fn graph(settings: &Settings, pieces: &[Piece]) -> Graph {
     let mut conflicts = vec![Vec::new(); pieces.len()];
     let mut stitches = vec![Vec::new(); pieces.len()];
+    let mut units: Vec<u16> = (0..pieces.len() as u16).collect();
+    let mut tied = false;
     for (j, b) in pieces.iter().enumerate() {
         for (i, a) in pieces[..j].iter().enumerate() {
             let lists = match edge(settings, a, b) {
                 Edge::Conflict => &mut conflicts,
                 Edge::Stitch => &mut stitches,
+                Edge::Tie => {
+                    tied = true;
+                    unite(&mut units, i, j);
+                    continue;
+                }
                 Edge::None => continue,
             };
             lists[i].push(j as u16);
             lists[j].push(i as u16);
         }
     }
+    if tied {
+        for piece in 0..pieces.len() {
+            units[piece] = lowest(&mut units, piece) as u16;
+        }
+        conflicts = merged(&conflicts, &units);
+        stitches = merged(&stitches, &units);
+    }
     Graph {
+        units,
         conflicts,
         stitches,
     }
 }
 
+/// The lowest piece of a unit. Each piece names one of its unit that is not above it, and the lowest itself.
+fn lowest(units: &mut [u16], mut piece: usize) -> usize {
+    while units[piece] as usize != piece {
+        units[piece] = units[units[piece] as usize];
+        piece = units[piece] as usize;
+    }
+    piece
+}
+
+fn unite(units: &mut [u16], i: usize, j: usize) {
+    let (a, b) = (lowest(units, i), lowest(units, j));
+    units[a.max(b)] = a.min(b) as u16;
+}
+
+/// The lists of units, from those of their pieces, without the edges inside a unit.
+fn merged(lists: &[Vec<u16>], units: &[u16]) -> Vec<Vec<u16>> {
+    let mut merged = vec![Vec::new(); lists.len()];
+    for (list, &unit) in lists.iter().zip(units) {
+        let others = list.iter().map(|&other| units[other as usize]);
+        merged[unit as usize].extend(others.filter(|&other| other != unit));
+    }
+    for list in &mut merged {
+        list.sort_unstable();
+    }
+    merged
+}
+
+/// The neighbours of a list, each once.
+fn distinct(list: &[u16]) -> impl Iterator<Item = usize> + '_ {
+    let mut last = None;
+    list.iter()
+        .map(|&u| u as usize)
+        .filter(move |&u| last.replace(u) != Some(u))
+}
+
 // ---- peeling (RULES 4)
 
 struct Removal {
-    piece: usize,
-    /// The stitch neighbour of a piece that went by (B).
+    unit: usize,
+    /// The stitch neighbour of a unit that went by (B).
     stitched: Option<usize>,
 }
 
@@ -102,18 +159,21 @@ struct Peeled {
     removals: Vec<Removal>,
 }
 
-/// A piece that may go still may when others are gone, so the pieces that may are kept, and only neighbours are looked at again.
+/// A unit that may go still may when others are gone, so the units that may are kept, and only neighbours are looked at again.
 fn peel(settings: &Settings, graph: &Graph) -> Peeled {
     let n = graph.conflicts.len();
-    let mut core = vec![true; n];
-    let mut near: Vec<usize> = graph.conflicts.iter().map(Vec::len).collect();
-    let mut stitched: Vec<usize> = graph.stitches.iter().map(Vec::len).collect();
+    let mut core: Vec<bool> = (0..n).map(|v| graph.units[v] as usize == v).collect();
+    let degrees = |lists: &[Vec<u16>]| lists.iter().map(|list| distinct(list).count()).collect();
+    let mut near: Vec<usize> = degrees(&graph.conflicts);
+    let mut stitched: Vec<usize> = degrees(&graph.stitches);
     let may_go = |near: usize, stitched: usize| match stitched {
         0 => near < settings.masks,
         1 => near == 0,
         _ => false,
     };
-    let mut ready: Vec<bool> = (0..n).map(|v| may_go(near[v], stitched[v])).collect();
+    let mut ready: Vec<bool> = (0..n)
+        .map(|v| core[v] && may_go(near[v], stitched[v]))
+        .collect();
     let mut removals = Vec::new();
     let mut v = 0;
     while v < n {
@@ -124,11 +184,11 @@ fn peel(settings: &Settings, graph: &Graph) -> Peeled {
         ready[v] = false;
         core[v] = false;
         let mut next = v + 1;
-        for &u in &graph.conflicts[v] {
-            near[u as usize] -= 1;
+        for u in distinct(&graph.conflicts[v]) {
+            near[u] -= 1;
         }
-        for &u in &graph.stitches[v] {
-            stitched[u as usize] -= 1;
+        for u in distinct(&graph.stitches[v]) {
+            stitched[u] -= 1;
         }
         for &u in graph.conflicts[v].iter().chain(&graph.stitches[v]) {
             let u = u as usize;
@@ -142,7 +202,7 @@ fn peel(settings: &Settings, graph: &Graph) -> Peeled {
             .map(|&u| u as usize)
             .find(|&u| core[u]);
         removals.push(Removal {
-            piece: v,
+            unit: v,
             stitched: neighbour,
         });
         v = next;
@@ -152,10 +212,10 @@ fn peel(settings: &Settings, graph: &Graph) -> Peeled {
 
 // ---- components (RULES 5)
 
-/// The component of a piece, in rising order. Its pieces are taken out of what is left of the core.
-fn component(graph: &Graph, left: &mut [bool], piece: usize) -> Vec<usize> {
-    let mut members = vec![piece];
-    left[piece] = false;
+/// The component of a unit, in rising order. Its units are taken out of what is left of the core.
+fn component(graph: &Graph, left: &mut [bool], unit: usize) -> Vec<usize> {
+    let mut members = vec![unit];
+    left[unit] = false;
     let mut at = 0;
     while at < members.len() {
         let v = members[at];
@@ -172,7 +232,7 @@ fn component(graph: &Graph, left: &mut [bool], piece: usize) -> Vec<usize> {
     members
 }
 
-/// For each place the places that conflict edges and stitch edges join to it, all in one list.
+/// For each place the places that conflict edges and stitch edges join to it, once for each edge, all in one list.
 struct Neighbours {
     starts: Vec<u32>,
     list: Vec<u16>,
@@ -435,7 +495,7 @@ fn search_component(
 fn put_back(graph: &Graph, peeled: &Peeled, masks: &mut [u8]) {
     let mut there = peeled.core.clone();
     for removal in peeled.removals.iter().rev() {
-        let v = removal.piece;
+        let v = removal.unit;
         masks[v] = match removal.stitched {
             Some(u) => masks[u],
             None => {
@@ -495,7 +555,11 @@ fn decompose(form: Form, settings: &Settings, pieces: &[Piece]) -> Run {
         cost: settings.weight * conflicts + stitches,
         steps: settings.budget - left,
         best: !stopped,
-        masks,
+        masks: graph
+            .units
+            .iter()
+            .map(|&unit| masks[unit as usize])
+            .collect(),
     }
 }
 
@@ -522,8 +586,51 @@ fn made_layer(seed: u32, count: usize) -> Vec<Piece> {
         .collect()
 }
 
+// ---- layer texts (RULES 9) and result texts (RULES 10)
+
+/// The layer of a text that is in order.
+fn read_layer(text: &str) -> Option<(Settings, Vec<Piece>)> {
+    let mut lines = text.lines().map(|line| -> Option<Vec<u32>> {
+        let (_, numbers) = line.split_once('=')?;
+        numbers.split(',').map(|word| word.parse().ok()).collect()
+    });
+    let mut setting = || Some(*lines.next()??.first()?);
+    let settings = Settings {
+        masks: setting()? as usize,
+        spacing: setting()?.into(),
+        margin: setting()?.into(),
+        weight: setting()?,
+        budget: setting()?.into(),
+    };
+    setting()?;
+    let piece = |numbers: Option<Vec<u32>>| match numbers?[..] {
+        [shape, x1, y1, x2, y2] => Some(Piece {
+            shape,
+            x1: x1.into(),
+            y1: y1.into(),
+            x2: x2.into(),
+            y2: y2.into(),
+        }),
+        _ => None,
+    };
+    let pieces = lines.map(piece).collect::<Option<Vec<Piece>>>()?;
+    Some((settings, pieces))
+}
+
+fn write_result(out: &mut impl Write, run: &Run) -> io::Result<()> {
+    let verdict = if run.best { "best" } else { "open" };
+    writeln!(
+        out,
+        "verdict={verdict}\nconflicts={}\nstitches={}\ncost={}\nsteps={}",
+        run.conflicts, run.stitches, run.cost, run.steps
+    )?;
+    run.masks
+        .iter()
+        .try_for_each(|mask| writeln!(out, "mask={mask}"))
+}
+
 fn usage() -> ! {
-    eprintln!("usage: reference lists|push [MASKS SEED PIECES BUDGET]...");
+    eprintln!("usage: reference lists|push [MASKS SEED PIECES BUDGET]..., or reference lists|push text < LAYER");
     std::process::exit(2);
 }
 
@@ -534,10 +641,19 @@ fn main() -> io::Result<()> {
         Some("push") => Form::Push,
         _ => usage(),
     };
+    let words: Vec<String> = words.collect();
+    let mut out = BufWriter::new(io::stdout());
+    if words == ["text"] {
+        let mut text = String::new();
+        io::stdin().read_to_string(&mut text)?;
+        let (settings, pieces) = read_layer(&text).unwrap_or_else(|| usage());
+        write_result(&mut out, &decompose(form, &settings, &pieces))?;
+        return out.flush();
+    }
     let numbers: Vec<u32> = words
+        .iter()
         .map(|word| word.parse().unwrap_or_else(|_| usage()))
         .collect();
-    let mut out = BufWriter::new(io::stdout());
     for four in numbers.chunks(4) {
         let (masks, seed, count, budget) = match *four {
             [masks @ 2..=8, seed, count @ 0..=512, budget] => {

@@ -58,6 +58,7 @@ struct layer *stored_layers(const char *folder, const char *ending, size_t *coun
 struct layer layer_of(const char *name, const char *text, const char *result);
 struct layer ring_layer(unsigned masks);
 struct layer clique_layer(unsigned masks, unsigned budget);
+struct layer chains_layer(void);
 void free_layers(struct layer *layers, size_t count);
 
 /* streams.c */

@@ -200,3 +200,36 @@ struct layer clique_layer(unsigned masks, unsigned budget)
     snprintf(name, sizeof name, "clique, %u masks", masks);
     return layer_of(name, text, result);
 }
+
+/*
+ * A chain is a row of squares of one shape, each of which touches the next along 9 nm. Pieces 0 and 413 to 511 are one,
+ * with piece 0 in its middle; pieces 1 to 200 are the next, and the rest a third.
+ */
+static struct piece chain_piece(unsigned i)
+{
+    unsigned shape = i == 0 || i > 412 ? 0 : i <= 200 ? 1 : 2;
+    unsigned position = i == 0 ? 50 : i > 462 ? i - 412 : i > 412 ? i - 413 : i;
+    unsigned raised = position % 2 * 11;
+    struct piece piece = {shape, 20 * position, raised, 20 * position + 20, raised + 20};
+
+    return piece;
+}
+
+/*
+ * Three chains for two masks, all pieces of which are in conflict with those of the others: three units of 100, 200 and 212
+ * pieces. The first assignment puts the first and the third on one mask, with 21,200 conflicts. The search finds that the
+ * first and the second have fewer, 20,000, at its fourth step, and ends at its seventh.
+ */
+struct layer chains_layer(void)
+{
+    static char text[HEZGOLT_LAYER_MOST], result[HEZGOLT_RESULT_LEAST + 1];
+    char *to = put_settings(text, 2, 10000, 1000);
+    char *out = put_counts(result, "best", 100 * 200, 0, 7);
+
+    for (unsigned i = 0; i < PIECES; i++) {
+        struct piece piece = chain_piece(i);
+        to = put_piece(to, piece);
+        out += sprintf(out, "mask=%u\n", piece.shape == 2 ? 1u : 0u);
+    }
+    return layer_of("three chains", text, result);
+}

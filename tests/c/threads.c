@@ -49,11 +49,11 @@ static pthread_t start(struct task *task)
     return thread;
 }
 
-/* Layers of 512 pieces that are searched to the last one, as texts or as streams. */
+/* Layers of 512 pieces that are searched to the last one, or tied, as texts or as streams. */
 void check_stack(int few, int streams)
 {
-    struct layer layers[10];
-    struct task task = {streams ? layers + 5 : layers, 5, 0, GUARDED, 0, NULL};
+    struct layer layers[12];
+    struct task task = {streams ? layers + 6 : layers, 6, 0, GUARDED, 0, NULL};
     unsigned budget = few ? 2000 : 200000;
 
     layers[0] = ring_layer(2);
@@ -61,13 +61,14 @@ void check_stack(int few, int streams)
     layers[2] = clique_layer(2, budget);
     layers[3] = clique_layer(8, budget);
     layers[4] = clique_layer(4, 0);
-    for (size_t i = 0; i < 5; i++)
-        layers[5 + i] = stream_of(&layers[i]);
+    layers[5] = chains_layer();
+    for (size_t i = 0; i < 6; i++)
+        layers[6 + i] = stream_of(&layers[i]);
     for (int kind = 0; kind < KINDS; kind++) {
         task.kind = (enum kind)kind;
         pthread_join(start(&task), NULL);
     }
-    free_layers(layers, 10);
+    free_layers(layers, 12);
 }
 
 /* All threads at once over the same layers. In the second round each begins with another one. */

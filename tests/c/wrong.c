@@ -99,6 +99,34 @@ static uint64_t of_a_copy(struct call call)
 #define pass_on of_a_copy
 #endif
 
+#if defined UNTIED
+/* The call gets a copy of the layer text, or of the settings text, with a margin of 1: tied pieces can be stitched then. */
+static uint64_t untied(struct call call)
+{
+    static uint8_t copy[HEZGOLT_LAYER_MOST];
+    const uint8_t **text = SECOND ? &call.settings : &call.bytes;
+    uint64_t *size = SECOND ? &call.settings_size : &call.size;
+    uint64_t from = 0, to;
+
+    if (*size > sizeof copy)
+        return pass_on(call);
+    memcpy(copy, *text, *size);
+    while (from + 9 < *size && memcmp(copy + from, "\nmargin=", 8) != 0)
+        from++;
+    if (from + 9 < *size) {
+        from += 8;
+        for (to = from; to < *size && copy[to] >= '0' && copy[to] <= '9'; to++)
+            continue;
+        copy[from++] = '1';
+        memmove(copy + from, copy + to, *size - to);
+        *size -= to - from;
+    }
+    *text = copy;
+    return pass_on(call);
+}
+#define pass_on untied
+#endif
+
 /* What is done before the call. A call that it answers is not passed on. */
 static int before(struct call *call, uint64_t *answer)
 {

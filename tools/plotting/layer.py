@@ -9,8 +9,8 @@ Settings = namedtuple("Settings", "masks spacing margin weight budget")
 Piece = namedtuple("Piece", "shape x1 y1 x2 y2")
 Layer = namedtuple("Layer", "settings pieces")
 Result = namedtuple("Result", "verdict conflicts stitches cost steps masks")
-# Pairs of piece numbers: conflict edges with one mask at both ends, and stitch edges with two.
-Edges = namedtuple("Edges", "conflicts stitches")
+# Pairs of piece numbers: conflict edges with one mask at both ends, stitch edges with two, and all ties.
+Edges = namedtuple("Edges", "conflicts stitches ties")
 
 LONGEST_LAYER_TEXT = 32_768
 SETTING_LIMITS = {
@@ -145,16 +145,32 @@ def pairs(pieces):
 
 
 def counted_edges(layer, masks):
-    """The edges that the score counts (RULES 3)."""
+    """The edges that the score counts (RULES 3), and the ties (RULES 2)."""
     spacing, margin = layer.settings.spacing, layer.settings.margin
-    edges = Edges([], [])
+    edges = Edges([], [], [])
     for i, j in pairs(layer.pieces):
         a, b = layer.pieces[i], layer.pieces[j]
-        if masks[i] == masks[j] and conflict_edge(a, b, spacing):
+        if 0 < contact(a, b) < margin:
+            edges.ties.append((i, j))
+        elif masks[i] == masks[j] and conflict_edge(a, b, spacing):
             edges.conflicts.append((i, j))
         elif masks[i] != masks[j] and contact(a, b) >= margin:
             edges.stitches.append((i, j))
     return edges
+
+
+def units(count, ties):
+    """For each piece the number of its unit, the lowest piece that ties join it to."""
+    above = list(range(count))
+
+    def lowest(number):
+        while above[number] != number:
+            above[number] = number = above[above[number]]
+        return number
+    for i, j in ties:
+        low, high = sorted((lowest(i), lowest(j)))
+        above[high] = low
+    return [lowest(number) for number in range(count)]
 
 
 def judge(layer, result):
@@ -166,6 +182,9 @@ def judge(layer, result):
         if mask >= settings.masks:
             raise BadInput(f"piece {number} is on mask {mask}, but the layer has masks 0 to {settings.masks - 1}")
     edges = counted_edges(layer, result.masks)
+    for i, j in edges.ties:
+        if result.masks[i] != result.masks[j]:
+            raise BadInput(f"pieces {i} and {j} are tied, but they are on masks {result.masks[i]} and {result.masks[j]}")
     conflicts, stitches = len(edges.conflicts), len(edges.stitches)
     found = {"conflicts": conflicts, "stitches": stitches, "cost": settings.weight * conflicts + stitches}
     for key, value in found.items():

@@ -2,7 +2,7 @@
 from collections import Counter
 
 from plotting.geometry import PAGE_LEFT, round_length
-from plotting.marks import INK, add, add_conflict, add_seams, add_stitch, path
+from plotting.marks import INK, TIE, add, add_conflict, add_seams, add_stitch, add_tie, path
 
 ROW = 22
 # The least length of the scale bar, and the length of the words above the spacing's.
@@ -12,6 +12,7 @@ VERDICTS = {
     "best": ("#1b6e3c", "No other assignment of these pieces costs less."),
     "open": ("#8a5a00", "The budget ended the search; a cheaper assignment may exist."),
 }
+BEST_OF_TIED = "No other assignment that keeps the ties costs less."
 
 
 def counted(number, noun):
@@ -23,16 +24,17 @@ def heading(layer):
     return f"{counted(len(layer.pieces), 'piece')} on {counted(layer.settings.masks, 'mask')}"
 
 
-def summary(result):
+def summary(result, tied):
+    means = BEST_OF_TIED if tied and result.verdict == "best" else VERDICTS[result.verdict][1]
     return (f"{counted(result.conflicts, 'conflict')} left, {counted(result.stitches, 'stitch')} used, "
-            f"cost {result.cost:,}, {counted(result.steps, 'step')}. {VERDICTS[result.verdict][1]}")
+            f"cost {result.cost:,}, {counted(result.steps, 'step')}. {means}")
 
 
-def add_heading(parent, layer, result):
+def add_heading(parent, layer, result, tied):
     add(parent, "rect", x=PAGE_LEFT, y=22, width=64, height=26, rx=4, fill=VERDICTS[result.verdict][0])
     add(parent, "text", result.verdict.upper(), kind="verdict", x=PAGE_LEFT + 32, y=40)
     add(parent, "text", heading(layer), kind="title", x=PAGE_LEFT + 78, y=42)
-    add(parent, "text", summary(result), x=PAGE_LEFT, y=70)
+    add(parent, "text", summary(result, tied), x=PAGE_LEFT, y=70)
 
 
 def add_length(parent, x, y, length, words, goes_on=False):
@@ -76,18 +78,22 @@ def add_masks(parent, count, masks):
 def add_marks(parent, mark, notes):
     """A sample of each mark, and notes on pieces that are not drawn as they lie."""
     add(parent, "text", "Marks", kind="head")
-    middle = [row * ROW - 4.5 for row in range(5)]
+    middle = [row * ROW - 4.5 for row in range(6)]
     add_conflict(parent, (4, middle[1]), (30, middle[1]), mark)
     add_conflict(parent, (17, middle[2]), (17, middle[2]), mark)
     add_stitch(parent, (8, middle[3]), (26, middle[3]), mark)
     add(parent, "rect", y=middle[4] - 8, width=34, height=16, fill="#c8c8c8")
     add_seams(parent, path((17, middle[4] - 8), (17, middle[4] + 8)))
     add(parent, "rect", kind="wire", y=middle[4] - 8, width=34, height=16, fill="none")
+    for x, y in ((0, middle[5] - 9), (17, middle[5] - 2)):
+        add(parent, "rect", kind="wire", x=x, y=y, width=17, height=11, fill="#c8c8c8")
+    add_tie(parent, (17, middle[5] - 2), (17, middle[5] + 2), TIE * mark)
     words = (
         "conflict left: one mask, too close",
         "conflict left: one mask, overlapping",
         "stitch used: the wire changes mask",
         "one wire, in two pieces",
+        "tie: too little contact, so one mask",
     )
     for row, text in enumerate(words, 1):
         add(parent, "text", text, x=44, y=row * ROW)
@@ -116,19 +122,19 @@ def result_rows(layer, result):
     ]
 
 
-def setting_rows(layer):
-    settings = layer.settings
+def setting_rows(layer, units):
+    settings, count = layer.settings, len(layer.pieces)
     return [
         ("masks K", f"{settings.masks}"),
         ("spacing S", f"{settings.spacing:,} nm"),
         ("margin M", f"{settings.margin:,} nm"),
         ("weight W", f"{settings.weight:,}"),
         ("budget B", counted(settings.budget, "step")),
-        ("pieces n", f"{len(layer.pieces):,}"),
+        ("pieces n", f"{count:,}" + (f", in {counted(units, 'unit')}" if units < count else "")),
     ]
 
 
-def add_legend(parent, layer, result, mark, notes, corner, downwards):
+def add_legend(parent, layer, result, units, mark, notes, corner, downwards):
     """Four panels from the corner on, one below the other or side by side; returns the lower right end."""
     x, y = corner
     right, bottom = x, y
@@ -136,7 +142,7 @@ def add_legend(parent, layer, result, mark, notes, corner, downwards):
         lambda panel: add_masks(panel, layer.settings.masks, result.masks),
         lambda panel: add_marks(panel, mark, notes),
         lambda panel: add_rows(panel, "Result", result_rows(layer, result)),
-        lambda panel: add_rows(panel, "Settings", setting_rows(layer)),
+        lambda panel: add_rows(panel, "Settings", setting_rows(layer, units)),
     ]
     for add_panel, width in zip(panels, PANEL_WIDTHS):
         panel = add(parent, "g", transform=f"translate({x:.0f} {y:.0f})")

@@ -1,4 +1,4 @@
-"""Elements of the picture: how they are written, the fills of the masks, and the marks of conflicts and stitches."""
+"""Elements of the picture: how they are written, the fills of the masks, and the marks of conflicts, stitches and ties."""
 import math
 import xml.etree.ElementTree as ET
 
@@ -25,6 +25,7 @@ MASK_STYLES = [
 # Sizes of marks; a View makes all of them smaller among small pieces.
 LEAST_CONFLICT, END_DOT, RING = 8, 3, 5.5
 LEAST_STITCH, BEYOND_STITCH = 12, 6
+TIE = 5
 
 
 def style(mark):
@@ -49,6 +50,7 @@ path, .halo, .line {{ fill: none }}
 .line {{ stroke: {RED}; stroke-width: {2.4 * mark:.2f}; stroke-linecap: round }}
 .dot {{ fill: {RED}; stroke: #fff; stroke-width: {mark:.2f} }}
 .bar {{ stroke: #000; stroke-width: {7 * mark:.2f} }}
+.knot {{ fill: {INK}; stroke: #fff; stroke-width: {mark:.2f} }}
 .core {{ stroke: #fff; stroke-width: {3.4 * mark:.2f}; stroke-dasharray: {3 * mark:.2f} {2 * mark:.2f} }}
 """
 
@@ -110,6 +112,12 @@ def add_stitch(parent, start, end, mark):
     length = max(LEAST_STITCH * mark, math.dist(start, end) + BEYOND_STITCH * mark)
     add(parent, "path", kind="bar", d=path(*resized(start, end, length)))
     add(parent, "path", kind="core", d=path(*resized(start, end, length - 3 * mark)))
+
+
+def add_tie(parent, start, end, size):
+    """A dark diamond in the middle of the segment where the pieces meet."""
+    x, y = (start[0] + end[0]) / 2, (start[1] + end[1]) / 2
+    add(parent, "path", kind="knot", d=path((x, y - size), (x + size, y), (x, y + size), (x - size, y), (x, y - size)))
 
 
 def add_seams(parent, lines):

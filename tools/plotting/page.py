@@ -3,15 +3,17 @@ import xml.etree.ElementTree as ET
 from collections import Counter, defaultdict
 
 from plotting.geometry import View, nearest_points, outline, seam
-from plotting.layer import contact, gaps, pairs
+from plotting.layer import contact, gaps, pairs, units
 from plotting.legend import add_heading, add_legend, add_lengths, counted, heading, summary
-from plotting.marks import add, add_conflict, add_fills, add_seams, add_stitch, path, style
+from plotting.marks import TIE, add, add_conflict, add_fills, add_seams, add_stitch, add_tie, path, style
 
 # Pieces are drawn at least this large, so that none is lost in a wide layer.
 LEAST_PIECE = 4
 # How far the end of a conflict line lies inside its piece and from the number there, and how far lines and rings in one
 # place are drawn apart.
 INSET, CLEAR, LINES_APART, RINGS_APART = 6, 12, 6, 13
+# The mark of a tie is this part of the shortest side of its pieces, if that is less than its full size.
+TIE_PART = 0.3
 
 
 class Box:
@@ -61,14 +63,17 @@ def drawing_order(pieces):
     return sorted(range(len(pieces)), key=lambda number: (-areas[number], number))
 
 
-def add_pieces(parent, layer, masks, boxes):
+def add_pieces(parent, layer, masks, unit_of, boxes):
+    """The pieces. Those that are not alone in their unit name it."""
+    sizes = Counter(unit_of)
     for number in drawing_order(layer.pieces):
         piece, box = layer.pieces[number], boxes[number]
+        unit = f", unit {unit_of[number]}" if sizes[unit_of[number]] > 1 else ""
         kind = "piece" + " nested" * box.nested + " enlarged" * box.enlarged
         rect = add(parent, "rect", kind=kind, id=f"piece-{number}",
                    x=box.x - box.width / 2, y=box.y - box.height / 2, width=box.width, height=box.height,
                    fill=f"url(#mask-{masks[number]})")
-        add(rect, "title", f"piece {number}, shape {piece.shape}, mask {masks[number]}: "
+        add(rect, "title", f"piece {number}, shape {piece.shape}{unit}, mask {masks[number]}: "
             f"X {piece.x1} to {piece.x2}, Y {piece.y1} to {piece.y2} nm")
 
 
@@ -83,6 +88,15 @@ def add_wires(parent, view, layer, boxes):
         if seams:
             add_seams(parent, "".join(path(*view.points(ends)) for ends in seams))
         add(parent, "path", kind="wire", d="".join(path(*view.points(ends)) for ends in outline(pieces)))
+
+
+def add_ties(parent, view, layer, masks, boxes, ties):
+    for i, j in ties:
+        a, b = layer.pieces[i], layer.pieces[j]
+        side = min(min(box.width, box.height) for box in (boxes[i], boxes[j]))
+        group = add(parent, "g", kind="tie")
+        add(group, "title", f"tie: pieces {i} and {j}, both on mask {masks[i]}, contact {contact(a, b)} nm")
+        add_tie(group, *view.points(seam(a, b)), min(TIE * view.mark, TIE_PART * side))
 
 
 def add_stitches(parent, view, layer, masks, stitches):
@@ -144,12 +158,13 @@ def notes_on(boxes):
     return notes
 
 
-def add_drawing(parent, view, layer, result, edges):
+def add_drawing(parent, view, layer, result, edges, unit_of):
     """The layer; returns the notes that it needs."""
     add_axes(parent, view)
     boxes = boxes_of(view, layer.pieces)
-    add_pieces(parent, layer, result.masks, boxes)
+    add_pieces(parent, layer, result.masks, unit_of, boxes)
     add_wires(parent, view, layer, boxes)
+    add_ties(parent, view, layer, result.masks, boxes, edges.ties)
     add_stitches(parent, view, layer, result.masks, edges.stitches)
     add_conflicts(parent, view, layer, result.masks, edges.conflicts)
     add_numbers(parent, layer, result.masks, boxes)
@@ -160,18 +175,18 @@ def add_drawing(parent, view, layer, result, edges):
 
 def picture(layer, result, edges):
     """The SVG text."""
-    view = View(layer)
+    view, unit_of = View(layer), units(len(layer.pieces), edges.ties)
     root = ET.Element("svg", {"xmlns": "http://www.w3.org/2000/svg", "role": "img", "aria-labelledby": "title desc"})
     add(root, "title", f"Decomposition of a layer: {heading(layer)}, {result.verdict}", id="title")
-    add(root, "desc", summary(result), id="desc")
+    add(root, "desc", summary(result, bool(edges.ties)), id="desc")
     add(root, "style", style(view.mark))
     add_fills(add(root, "defs"), layer.settings.masks)
     add(root, "rect", width="100%", height="100%", fill="#fff")
-    add_heading(root, layer, result)
-    notes = add_drawing(root, view, layer, result, edges)
+    add_heading(root, layer, result, bool(edges.ties))
+    notes = add_drawing(root, view, layer, result, edges, unit_of)
     bottom = add_lengths(root, view, layer.settings.spacing, view.bottom + 58)
     corner = (view.right + 30, view.top + 10) if view.high else (view.left, bottom + 46)
-    right, lowest = add_legend(root, layer, result, view.mark, notes, corner, view.high)
+    right, lowest = add_legend(root, layer, result, len(set(unit_of)), view.mark, notes, corner, view.high)
     width, height = round(max(right, view.right)) + 30, round(max(lowest, bottom)) + 30
     root.attrib.update(width=str(width), height=str(height), viewBox=f"0 0 {width} {height}")
     ET.indent(root, " ")

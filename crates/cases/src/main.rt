@@ -1,4 +1,4 @@
-// Runs the worked cases of RULES 13 through the calls, and reports of each whether it came out as stated there: those that are stored as
+// Runs the worked cases of RULES 13 and 17 through the calls, and reports of each whether it came out as stated there: those that are stored as
 // texts, and the gaps and contacts.
 ghost use Prim.Native.Nat.{_<_};
 use files::read_file;
@@ -138,6 +138,7 @@ fn named(name: &[u8], edge: Edge, wanted: &[u8]) {
     match edge {
         Edge::Conflict => same(name, b"conflict\n", wanted),
         Edge::Stitch => same(name, b"stitch\n", wanted),
+        Edge::Tie => same(name, b"tie\n", wanted),
         Edge::None => same(name, b"none\n", wanted),
     }
 }
@@ -180,7 +181,7 @@ fn edges() {
     joined(b"gaps 48 and 64", 1, 68, 84, b"none\n");
     joined(b"shapes that overlap", 1, 10, 10, b"conflict\n");
     joined(b"contact 10", 0, 20, 10, b"stitch\n");
-    joined(b"contact 9", 0, 20, 11, b"none\n");
+    joined(b"contact 9", 0, 20, 11, b"tie\n");
     joined(b"contact at a point", 0, 20, 20, b"none\n");
 }
 

@@ -13,11 +13,10 @@ use Rattle.bitset.specs.Bits.{hasEdge}
 use Rattle.rules.specs.Basics.{given}
 use Rattle.rules.specs.Edges.{Graph, joined}
 use Rattle.rules.proofs.Lists.{_∈_}
-use Rattle.layout.specs.Adjacency.{wordGraph}
+use Rattle.layout.specs.Adjacency.{wordGraph, BothWays}
 use Rattle.layout.proofs.AdjacencyLaws.{given-test}
 use Rattle.theory.proofs.Reach.{Symmetric}
 use Rattle.theory.proofs.Neighbours.{SameNeighbours}
-use Rattle.components.specs.Component.{BothWays}
 
 abbrev pub bounded : List ℕ → ℕ → ℕ → ℕ
 bounded words u w = given (ltb u 512 && ltb w 512 && hasEdge words u w) 1

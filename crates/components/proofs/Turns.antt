@@ -14,12 +14,12 @@ use Rattle.rules.specs.Basics.{without}
 use Rattle.rules.specs.Edges.{joined}
 use Rattle.rules.proofs.Lists.{_∈_}
 use Rattle.rules.proofs.Tests.{by-test, clash, both}
-use Rattle.layout.specs.Adjacency.{wordGraph}
+use Rattle.layout.specs.Adjacency.{wordGraph, BothWays}
 use Rattle.layout.specs.Members.{membersOf}
 use Rattle.layout.proofs.MemberLaws.{in-members, members-out, members-either, members-kept}
 use Rattle.theory.proofs.Components.{Component}
-use Rattle.theory.proofs.Neighbours.{SameNeighbours, component-of-same}
-use Rattle.components.specs.Component.{BothWays, IsComponent}
+use Rattle.theory.proofs.Neighbours.{SameJoined, joined-same, component-of-same}
+use Rattle.components.specs.Component.{IsComponent}
 use Rattle.components.proofs.BoundedGraph.{boundedGraph, bounded-symmetric, bounded-joined, bounded-same}
 use Rattle.components.proofs.Frontier.{Grown, grown-one, grown-more, grown-component, component-first}
 
@@ -134,8 +134,8 @@ module _ (conflicts stitches left : List ℕ) (v : ℕ) (inside frontier : List 
       (λ k m. let (h, e) = in-members frontier k .0 m in clash e (first .before k (omega arith)))
       (members-kept left inside (grown .within))
 
-  same-below : (after : List ℕ) → membersOf left ≡ v ∷ after → SameNeighbours (wordGraph conflicts stitches) (boundedGraph conflicts stitches) (v ∷ after)
-  same-below after e = bounded-same conflicts stitches (λ u m. in-members left u .0 (subst (λ xs. u ∈ xs) (sym e) m) .0)
+  same-below : (after : List ℕ) → membersOf left ≡ v ∷ after → SameJoined (wordGraph conflicts stitches) (boundedGraph conflicts stitches) (v ∷ after)
+  same-below after e = joined-same (bounded-same conflicts stitches (λ u m. in-members left u .0 (subst (λ xs. u ∈ xs) (sym e) m) .0))
 
   pub grown-done : IsComponent conflicts stitches left v inside
   grown-done = record {

@@ -8,10 +8,6 @@ use Rattle.rules.specs.Components.{componentOf}
 use Rattle.layout.specs.Adjacency.{wordGraph}
 use Rattle.layout.specs.Members.{membersOf}
 
--- the words join two vertices both ways or not at all
-abbrev pub BothWays : List ℕ → Type 0
-BothWays words = (a b : ℕ) → a < 512 → b < 512 → hasEdge words a b ≡ hasEdge words b a
-
 -- The set r is the component of v among those left: the rules' component where v is the lowest of them.
 pub record IsComponent (conflictWords stitchWords left : List ℕ) (v : ℕ) (r : List ℕ) : Type 0 where
   pub component : (after : List ℕ) → membersOf left ≡ v ∷ after → membersOf r ≡ componentOf (wordGraph conflictWords stitchWords) v after

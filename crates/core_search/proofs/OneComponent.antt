@@ -1,8 +1,8 @@
 -- From the order, the lists and the local search to the search of a component by the rules. Assumes nothing.
 use mathlib.Core.Bool.{cond}
-use mathlib.Core.List.{List}
+use mathlib.Core.List.{List, [], _∷_}
 use mathlib.Core.Path.{_≡_, sym, ap, ap₂, _∙_}
-use Prim.Native.Nat.{ℕ, _-_, _*_, _≤_, _<_}
+use Prim.Native.Nat.{ℕ, zero, suc, _-_, _*_, _≤_, _<_}
 use native.Mathlib.Omega.{arith}
 use lib.Dec.{eqb}
 use lib.ListN.{length, getD, take, set, length-set, length-take}
@@ -11,16 +11,16 @@ use Rattle.rules.specs.Edges.{Graph}
 use Rattle.rules.specs.Score.{pairCost}
 use Rattle.rules.specs.Search.{State, localGraph, added, candidates}
 use Rattle.rules.specs.Decomposition.{putMasks}
+use Rattle.rules.proofs.Lists.{place-in, Rising}
 use Rattle.rules.proofs.Sums.{sum-ext}
-use Rattle.layout.specs.Adjacency.{wordGraph}
 use Rattle.layout.specs.Members.{membersOf}
-use Rattle.layout.proofs.MemberLaws.{in-members}
+use Rattle.layout.specs.UnitGraph.{unitGraph}
+use Rattle.layout.proofs.MemberLaws.{in-members, members-rising}
 use Rattle.theory.proofs.Renaming.{from-feasible}
 use Rattle.theory.proofs.SameCost.{from-alike}
 use Rattle.places.specs.Local.{localAdded}
 use Rattle.places.specs.LaidOut.{LaidOut}
 use Rattle.places.specs.Order.{Ordered}
-use Rattle.places.proofs.Ordering.{at-in}
 use Rattle.search.specs.Branch.{sizeIn, masksIn, weightIn, budgetIn, stateIn}
 use Rattle.search.specs.Component.{searchLocal, Posed, Searched}
 use Rattle.core_search.specs.Core.{searchOf, Given, OneSearched}
@@ -31,8 +31,22 @@ unfolding added pairCost
 added-prefix weight g order n p m h = sum-ext (length p) (λ i l.
     ap₂ (λ (u v : ℕ). cond (eqb (getD p i 0) m) (weight * g .conflicts u v) (g .stitches u v)) (sym (getD-take n order i 0 (omega arith))) (sym (getD-take n order (length p) 0 h)))
 
-module _ {conflictWords stitchWords component before order starts list numbers result : List ℕ} {left size : ℕ}
-    (given : Given conflictWords stitchWords component numbers left result) (ordered : Ordered component before order size) (laid : LaidOut conflictWords stitchWords order size starts list) where
+-- a rising list rises from place to place
+rising-places : (xs : List ℕ) → Rising xs → (i j : ℕ) → i < j → j < length xs → getD xs i 0 < getD xs j 0
+rising-places [] r i j h l = absurd (omega arith)
+rising-places (x ∷ xs) r i zero h l = absurd (omega arith)
+rising-places (x ∷ xs) r zero (suc j) h l = r .0 (getD xs j 0) (place-in xs j (omega arith))
+rising-places (x ∷ xs) r (suc i) (suc j) h l = rising-places xs (r .1) i j (omega arith) (omega arith)
+
+-- so does the order of a component
+pub order-rises : {component before order : List ℕ} {size : ℕ} → Ordered component before order size → (i j : ℕ) → i < j → j < size → getD order i 0 < getD order j 0
+order-rises {component} {order = order} {size = size} o i j h l =
+    let long = length-take-le size order (omega (arith, o .few, o .whole)) in
+    let rises = rising-places (take size order) (rw (o .order) (members-rising component)) i j h (omega arith) in
+    omega (arith, getD-take size order i 0 (omega arith), getD-take size order j 0 l, rises)
+
+module _ {conflictWords stitchWords units component before order starts list numbers result : List ℕ} {n left size : ℕ}
+    (given : Given component numbers left result) (ordered : Ordered component before order size) (laid : LaidOut conflictWords stitchWords units n order size starts list) where
   abbrev asked : List ℕ
   asked = set numbers 2 size
 
@@ -60,29 +74,29 @@ module _ {conflictWords stitchWords component before order starts list numbers r
   pub places-there : (i : ℕ) → i < size → getD order i 0 < length result
   places-there i h =
       let at : getD order i 0 ≡ getD (membersOf component) i 0 = sym (getD-take size order i 0 h) ∙ ap (λ (l : List ℕ). getD l i 0) (ordered .order) in
-      let is = in-members component (getD (membersOf component) i 0) .0 (at-in (membersOf component) i (omega (arith, vertices))) in
+      let is = in-members component (getD (membersOf component) i 0) .0 (place-in (membersOf component) i (omega (arith, vertices))) in
       omega (arith, at, given .placed (getD (membersOf component) i 0) (is .0) (is .1))
 
   abbrev graph : Graph
-  graph = wordGraph conflictWords stitchWords
+  graph = unitGraph conflictWords stitchWords units n
 
   same-cost : (p : List ℕ) (m : ℕ) → length p < size → localAdded (weightIn numbers) starts list p m ≡ added (weightIn numbers) (localGraph graph (membersOf component)) p m
   same-cost p m h = laid .adds (weightIn numbers) p m h ∙ added-prefix (weightIn numbers) graph order size p m h ∙ ap (λ (o : List ℕ). added (weightIn numbers) (localGraph graph o) p m) (ordered .order)
 
-  local-search : searchLocal starts list asked left ≡ searchOf conflictWords stitchWords component numbers left
+  local-search : searchLocal starts list asked left ≡ searchOf graph component numbers left
   local-search =
       rw (size-there, other 1 (λ q. omega arith), other 3 (λ q. omega arith), other 4 (λ q. omega arith), other 5 (λ q. omega arith), vertices)
       (from-alike (localAdded (weightIn numbers) starts list) (added (weightIn numbers) (localGraph graph (membersOf component))) size same-cost (budgetIn numbers)
       (masksIn numbers) (candidates (masksIn numbers)) (budgetIn numbers - left) (eqb (getD numbers 1 0) 1))
 
   module _ {incumbent numbers′ : List ℕ} {left′ : ℕ} (found : Searched starts list incumbent asked numbers′ left left′) where
-    searched : stateIn incumbent numbers′ left′ ≡ searchOf conflictWords stitchWords component numbers left
+    searched : stateIn incumbent numbers′ left′ ≡ searchOf graph component numbers left
     searched = found .searched ∙ local-search
 
     size-kept : sizeIn numbers′ ≡ size
     size-kept = found .constants 2 (omega arith) ∙ size-there
 
-    held : take size incumbent ≡ searchOf conflictWords stitchWords component numbers left .incumbent
+    held : take size incumbent ≡ searchOf graph component numbers left .incumbent
     held = ap (λ (n : ℕ). take n incumbent) (sym size-kept) ∙ ap (λ (s : State). s .incumbent) searched
 
     pub incumbent-long : size ≤ length incumbent
@@ -92,7 +106,7 @@ module _ {conflictWords stitchWords component before order starts list numbers r
         omega (arith, ap length held ∙ long, vertices, length-take size incumbent)
 
     pub one-searched : {result′ : List ℕ} → result′ ≡ putMasks (take size order) (take size incumbent) result
-        → OneSearched conflictWords stitchWords component numbers numbers′ left result result′ left′
+        → OneSearched graph component numbers numbers′ left result result′ left′
     one-searched e = record {
       steps = ap (λ (b : ℕ). b - left′) (sym (found .constants 5 (omega arith) ∙ other 5 (λ q. omega arith))) ∙ ap (λ (s : State). s .steps) searched;
       stopped = ap (λ (s : State). s .stopped) searched;

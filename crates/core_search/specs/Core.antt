@@ -1,4 +1,4 @@
--- What the search of a component leaves, on adjacency words. Assumes nothing: these are definitions.
+-- What the search of components leaves, on a graph. Assumes nothing: these are definitions.
 use mathlib.Core.Bool.{true}
 use mathlib.Core.List.{List}
 use mathlib.Core.Path.{_≡_}
@@ -6,23 +6,32 @@ use Prim.Native.Nat.{ℕ, _-_, _≤_, _<_}
 use lib.Dec.{eqb}
 use lib.ListN.{length, getD}
 use Rattle.bitset.specs.Bits.{member}
+use Rattle.rules.specs.Edges.{Graph}
 use Rattle.rules.specs.Search.{State, localGraph, searchFrom}
 use Rattle.rules.specs.Components.{components}
 use Rattle.rules.specs.Decomposition.{putMasks, Reached, searchAll}
-use Rattle.layout.specs.Adjacency.{wordGraph}
 use Rattle.layout.specs.Members.{membersOf}
+use Rattle.layout.specs.UnitGraph.{unitAt}
+use Rattle.layout.specs.Adjacency.{BothWays}
 use Rattle.places.specs.LaidOut.{Exclusive}
 use Rattle.search.specs.Branch.{masksIn, weightIn, budgetIn}
 
 -- the search of a component by the rules, with so many steps left of the budget
-abbrev pub searchOf : List ℕ → List ℕ → List ℕ → List ℕ → ℕ → State
-searchOf conflictWords stitchWords component numbers left =
+abbrev pub searchOf : Graph → List ℕ → List ℕ → ℕ → State
+searchOf g component numbers left =
     let order = membersOf component in
-    searchFrom (masksIn numbers) (weightIn numbers) (budgetIn numbers) (localGraph (wordGraph conflictWords stitchWords) order) (length order) (budgetIn numbers - left) (eqb (getD numbers 1 0) 1)
+    searchFrom (masksIn numbers) (weightIn numbers) (budgetIn numbers) (localGraph g order) (length order) (budgetIn numbers - left) (eqb (getD numbers 1 0) 1)
 
--- the words, the numbers of the search, and a place among the masks for each vertex
-pub record Given (conflictWords stitchWords vertices numbers : List ℕ) (left : ℕ) (result : List ℕ) : Type 0 where
+-- the words of the first n pieces' edges, and their units
+pub record Words (conflictWords stitchWords units : List ℕ) (n : ℕ) : Type 0 where
   pub exclusive : Exclusive conflictWords stitchWords
+  pub conflicts : BothWays conflictWords
+  pub stitches : BothWays stitchWords
+  pub few : n ≤ 512
+  pub small : (i : ℕ) → i < n → unitAt units i < 512
+
+-- the numbers of the search, and a place among the masks for each vertex
+pub record Given (vertices numbers : List ℕ) (left : ℕ) (result : List ℕ) : Type 0 where
   pub some : 1 ≤ masksIn numbers
   pub masks : masksIn numbers ≤ 8
   pub weight : weightIn numbers ≤ 1000
@@ -31,25 +40,24 @@ pub record Given (conflictWords stitchWords vertices numbers : List ℕ) (left :
   pub placed : (u : ℕ) → u < 512 → member vertices u ≡ true → u < length result
 
 -- A component was searched, and its masks put down. The number at 0 is the incumbent's cost, that at 2 the component's size.
-pub record OneSearched (conflictWords stitchWords component numbers numbers′ : List ℕ) (left : ℕ) (result result′ : List ℕ) (left′ : ℕ) : Type 0 where
-  pub steps : budgetIn numbers - left′ ≡ searchOf conflictWords stitchWords component numbers left .steps
-  pub stopped : eqb (getD numbers′ 1 0) 1 ≡ searchOf conflictWords stitchWords component numbers left .stopped
-  pub masks : result′ ≡ putMasks (membersOf component) (searchOf conflictWords stitchWords component numbers left .incumbent) result
+pub record OneSearched (g : Graph) (component numbers numbers′ : List ℕ) (left : ℕ) (result result′ : List ℕ) (left′ : ℕ) : Type 0 where
+  pub steps : budgetIn numbers - left′ ≡ searchOf g component numbers left .steps
+  pub stopped : eqb (getD numbers′ 1 0) 1 ≡ searchOf g component numbers left .stopped
+  pub masks : result′ ≡ putMasks (membersOf component) (searchOf g component numbers left .incumbent) result
   pub numbered : length numbers′ ≡ 6
   pub constants : (i : ℕ) → 3 ≤ i → getD numbers′ i 0 ≡ getD numbers i 0
   pub fewer : left′ ≤ left
 
 -- what the search of some vertices, component by component, makes of the masks, with so many steps left of the budget
-abbrev pub searchAllOf : List ℕ → List ℕ → List ℕ → List ℕ → ℕ → List ℕ → Reached
-searchAllOf conflictWords stitchWords vertices numbers left result =
-    let g = wordGraph conflictWords stitchWords in
+abbrev pub searchAllOf : Graph → List ℕ → List ℕ → ℕ → List ℕ → Reached
+searchAllOf g vertices numbers left result =
     searchAll (masksIn numbers) (weightIn numbers) (budgetIn numbers) g (components g (membersOf vertices)) (record { steps = budgetIn numbers - left; stopped = eqb (getD numbers 1 0) 1; masks = result })
 
 -- The core was searched, from the whole budget on. The numbers at 0 and 2 are the last component's and say nothing of the core.
-pub record CoreSearched (conflictWords stitchWords core numbers numbers′ result result′ : List ℕ) (left′ : ℕ) : Type 0 where
-  pub steps : budgetIn numbers - left′ ≡ searchAllOf conflictWords stitchWords core numbers (budgetIn numbers) result .steps
-  pub stopped : eqb (getD numbers′ 1 0) 1 ≡ searchAllOf conflictWords stitchWords core numbers (budgetIn numbers) result .stopped
-  pub masks : result′ ≡ searchAllOf conflictWords stitchWords core numbers (budgetIn numbers) result .masks
+pub record CoreSearched (g : Graph) (core numbers numbers′ result result′ : List ℕ) (left′ : ℕ) : Type 0 where
+  pub steps : budgetIn numbers - left′ ≡ searchAllOf g core numbers (budgetIn numbers) result .steps
+  pub stopped : eqb (getD numbers′ 1 0) 1 ≡ searchAllOf g core numbers (budgetIn numbers) result .stopped
+  pub masks : result′ ≡ searchAllOf g core numbers (budgetIn numbers) result .masks
   pub numbered : length numbers′ ≡ 6
   pub constants : (i : ℕ) → 3 ≤ i → getD numbers′ i 0 ≡ getD numbers i 0
   pub fewer : left′ ≤ budgetIn numbers

@@ -1,12 +1,13 @@
-// The search of the core (RULES 5 and 6): one component after the other, in the order of their lowest vertices, within one budget. The
-// decomposition stands on this crate.
+// The search of the core (RULES 5, 6 and 17): one component after the other, in the order of their lowest units, within one budget. Components
+// are found on the words of units; costs come from the words of pieces. The decomposition stands on this crate.
 //
 // The numbers of a search are those of `search`: at 0 the incumbent's cost, at 1 whether a step was due beyond the budget (1 if so), at 2 how many
 // places there are, at 3 the masks, at 4 the weight, at 5 the budget.
 ghost use mathlib.Core.Path.{_≡_};
 ghost use lib.ListN.{length, set};
-ghost use Rattle.core_search.specs.Core.{Given, OneSearched, CoreSearched};
-ghost use Rattle.components.specs.Component.{BothWays};
+ghost use Rattle.core_search.specs.Core.{Words, Given, OneSearched, CoreSearched};
+ghost use Rattle.layout.specs.UnitGraph.{unitGraph};
+ghost use Rattle.units.specs.Merged.{Merged};
 ghost use Rattle.search.specs.Branch.{budgetIn};
 
 // Stores how many places there are.
@@ -17,10 +18,12 @@ fn set_size(numbers: &mut [u64; 6], size: usize)
     all[2] = size as u64;
 }
 
-// Searches one component, and puts its masks down. Answers how many of the `left` steps are left then.
+// Searches one component, and puts its masks down at the units' numbers. Answers how many of the `left` steps are left then.
 fn search_one(
     conflicts: &[u64; 4096],
     stitches: &[u64; 4096],
+    units: &[u16; 512],
+    n: usize,
     component: &[u64; 8],
     order: &mut [u16; 512],
     starts: &mut [u32; 1025],
@@ -30,31 +33,38 @@ fn search_one(
     left: u64,
     result: &mut [u8],
 ) -> u64
-    requires { ⌜ Given (now conflicts) (now stitches) (now component) (now numbers) left (now result) ⌝ }
+    requires { ⌜ Words (now conflicts) (now stitches) (now units) n ⌝ }
+    requires { ⌜ Given (now component) (now numbers) left (now result) ⌝ }
     requires { ⌜ (length (now order) ≡ 512) × (length (now starts) ≡ 1025) × (length (now list) ≡ 131_584) ⌝ }
-    ensures { λ r. ⌜ OneSearched (now (conflicts .entry)) (now (stitches .entry)) (now (component .entry)) (now (numbers .entry)) (now (numbers .exit)) left (now (result .entry)) (now (result .exit)) r ⌝ }
+    ensures { λ r. ⌜ OneSearched (unitGraph (now (conflicts .entry)) (now (stitches .entry)) (now (units .entry)) n) (now (component .entry)) (now (numbers .entry)) (now (numbers .exit)) left (now (result .entry)) (now (result .exit)) r ⌝ }
     ensures { λ _. ⌜ (length (now (order .exit)) ≡ 512) × (length (now (starts .exit)) ≡ 1025) × (length (now (list .exit)) ≡ 131_584) ⌝ }
 {
     let size = places::list_members(component, order);
-    places::lay_out(conflicts, stitches, order, size, starts, list);
+    places::lay_out(conflicts, stitches, units, n, order, size, starts, list);
     set_size(numbers, size);
     let rest = search::search_component(starts, list, incumbent, numbers, left);
     places::put_masks(order, size, incumbent, result);
     rest
 }
 
-// Searches the components of the core, and puts their masks down. Answers how many steps of the budget are left.
+// Searches the components of the core, and puts their masks down at the units' numbers. `near` and `stitched` are the words of units, for conflict and
+// for stitch edges. Answers how many steps of the budget are left.
 pub fn search_core(
     conflicts: &[u64; 4096],
     stitches: &[u64; 4096],
+    near: &[u64; 4096],
+    stitched: &[u64; 4096],
+    units: &[u16; 512],
+    n: usize,
     core: &[u64; 8],
     numbers: &mut [u64; 6],
     result: &mut [u8],
 ) -> u64
-    requires { ⌜ Given (now conflicts) (now stitches) (now core) (now numbers) (budgetIn (now numbers)) (now result) ⌝ }
-    requires { ⌜ BothWays (now conflicts) ⌝ }
-    requires { ⌜ BothWays (now stitches) ⌝ }
-    ensures { λ r. ⌜ CoreSearched (now (conflicts .entry)) (now (stitches .entry)) (now (core .entry)) (now (numbers .entry)) (now (numbers .exit)) (now (result .entry)) (now (result .exit)) r ⌝ }
+    requires { ⌜ Words (now conflicts) (now stitches) (now units) n ⌝ }
+    requires { ⌜ Merged (now conflicts) (now units) n (now near) ⌝ }
+    requires { ⌜ Merged (now stitches) (now units) n (now stitched) ⌝ }
+    requires { ⌜ Given (now core) (now numbers) (budgetIn (now numbers)) (now result) ⌝ }
+    ensures { λ r. ⌜ CoreSearched (unitGraph (now (conflicts .entry)) (now (stitches .entry)) (now (units .entry)) n) (now (core .entry)) (now (numbers .entry)) (now (numbers .exit)) (now (result .entry)) (now (result .exit)) r ⌝ }
 {
     let mut order = [0u16; 512];
     let mut starts = [0u32; 1025];
@@ -67,10 +77,12 @@ pub fn search_core(
         if v == 512 {
             break;
         }
-        let component = components::component(conflicts, stitches, &rest, v);
+        let component = components::component(near, stitched, &rest, v);
         left = search_one(
             conflicts,
             stitches,
+            units,
+            n,
             &component,
             &mut order,
             &mut starts,

@@ -8,22 +8,20 @@ use lib.Dec.{eqb}
 use lib.ListN.{getD}
 use Rattle.rules.specs.declared.layer.Settings.{Settings}
 use Rattle.rules.specs.Decomposition.{Reached}
+use Rattle.rules.specs.Edges.{Graph}
 use Rattle.rules.specs.Settings.{settingsInRange}
 use Rattle.rules.proofs.Ranges.{settings-facts}
-use Rattle.places.specs.LaidOut.{Exclusive}
 use Rattle.search.specs.Branch.{budgetIn}
 use Rattle.core_search.specs.Core.{Given, CoreSearched, searchAllOf}
 use Rattle.decomposer.specs.declared.stages.Searched.{Searched}
 use Rattle.decomposer.specs.Stages.{HasPlaces, searchOfCore, SearchedCore}
 
-module _ (s : Settings) {conflicts stitches core numbers : List ℕ} (inRange : settingsInRange s ≡ true)
-    (start : numbers ≡ 0 ∷ 0 ∷ 0 ∷ s .masks ∷ s .weight ∷ s .budget ∷ []) where
-  pub core-given : {masks : List ℕ} → Exclusive conflicts stitches → HasPlaces core masks → Given conflicts stitches core numbers (budgetIn numbers) masks
-  core-given exclusive placed =
+module _ (s : Settings) {numbers : List ℕ} (start : numbers ≡ 0 ∷ 0 ∷ 0 ∷ s .masks ∷ s .weight ∷ s .budget ∷ []) where
+  pub core-given : settingsInRange s ≡ true → {core masks : List ℕ} → HasPlaces core masks → Given core numbers (budgetIn numbers) masks
+  core-given inRange placed =
       let facts = settings-facts s inRange in
       rw start
       (record {
-        exclusive = exclusive;
         some = omega (arith, facts .masks .low);
         masks = facts .masks .high;
         weight = facts .weight .high;
@@ -32,11 +30,11 @@ module _ (s : Settings) {conflicts stitches core numbers : List ℕ} (inRange : 
         placed = placed;
       })
 
-  pub core-searched : {numbers′ before after : List ℕ} {left : ℕ} {r : Searched} → CoreSearched conflicts stitches core numbers numbers′ before after left
-      → r .steps ≡ s .budget - left → r .stopped ≡ eqb (getD numbers′ 1 0) 1 → SearchedCore s conflicts stitches core before after r
-  core-searched {before = before} {left = left} c steps stopped =
-      let same : searchAllOf conflicts stitches core numbers (budgetIn numbers) before ≡ searchOfCore s conflicts stitches core before
-      = ap (λ (l : List ℕ). searchAllOf conflicts stitches core l (budgetIn l) before) start ∙ rw (let z : s .budget - s .budget ≡ 0 = omega arith in z) in
+  pub core-searched : {g : Graph} {core numbers′ before after : List ℕ} {left : ℕ} {r : Searched} → CoreSearched g core numbers numbers′ before after left
+      → r .steps ≡ s .budget - left → r .stopped ≡ eqb (getD numbers′ 1 0) 1 → SearchedCore s g core before after r
+  core-searched {g} {core} {before = before} {left = left} c steps stopped =
+      let same : searchAllOf g core numbers (budgetIn numbers) before ≡ searchOfCore s g core before
+      = ap (λ (l : List ℕ). searchAllOf g core l (budgetIn l) before) start ∙ rw (let z : s .budget - s .budget ≡ 0 = omega arith in z) in
       record {
         steps = steps ∙ ap (λ (l : List ℕ). budgetIn l - left) (sym start) ∙ c .steps ∙ ap (λ (w : Reached). w .steps) same;
         stopped = stopped ∙ c .stopped ∙ ap (λ (w : Reached). w .stopped) same;

@@ -1,14 +1,14 @@
--- What the stages ask and give, on adjacency words. Assumes nothing: these are definitions.
+-- What the stages ask and give, on a graph of units. Assumes nothing: these are definitions.
 use mathlib.Core.Bool.{true, false}
 use mathlib.Core.List.{List}
 use mathlib.Core.Path.{_≡_}
 use Prim.Native.Nat.{ℕ, _<_}
-use lib.ListN.{length}
+use lib.ListN.{length, replicate}
 use Rattle.bitset.specs.Bits.{member}
 use Rattle.rules.specs.declared.layer.Settings.{Settings}
 use Rattle.rules.specs.Components.{components}
-use Rattle.rules.specs.Decomposition.{Reached, searchAll}
-use Rattle.layout.specs.Adjacency.{wordGraph}
+use Rattle.rules.specs.Edges.{Graph}
+use Rattle.rules.specs.Decomposition.{Reached, searchAll, decompose}
 use Rattle.layout.specs.Members.{membersOf}
 use Rattle.decomposer.specs.declared.stages.Searched.{Searched}
 
@@ -17,13 +17,22 @@ abbrev pub HasPlaces : List ℕ → List ℕ → Type 0
 HasPlaces vertices masks = (u : ℕ) → u < 512 → member vertices u ≡ true → u < length masks
 
 -- what the search of the core reaches from these masks, by the rules
-abbrev pub searchOfCore : Settings → List ℕ → List ℕ → List ℕ → List ℕ → Reached
-searchOfCore s conflictWords stitchWords core masks =
-    let g = wordGraph conflictWords stitchWords in
-    searchAll (s .masks) (s .weight) (s .budget) g (components g (membersOf core)) (record { steps = 0; stopped = false; masks = masks })
+abbrev pub searchOfCore : Settings → Graph → List ℕ → List ℕ → Reached
+searchOfCore s g core masks = searchAll (s .masks) (s .weight) (s .budget) g (components g (membersOf core)) (record { steps = 0; stopped = false; masks = masks })
 
 -- the core was searched
-pub record SearchedCore (s : Settings) (conflictWords stitchWords core before after : List ℕ) (r : Searched) : Type 0 where
-  pub steps : r .steps ≡ searchOfCore s conflictWords stitchWords core before .steps
-  pub stopped : r .stopped ≡ searchOfCore s conflictWords stitchWords core before .stopped
-  pub masks : after ≡ searchOfCore s conflictWords stitchWords core before .masks
+pub record SearchedCore (s : Settings) (g : Graph) (core before after : List ℕ) (r : Searched) : Type 0 where
+  pub steps : r .steps ≡ searchOfCore s g core before .steps
+  pub stopped : r .stopped ≡ searchOfCore s g core before .stopped
+  pub masks : after ≡ searchOfCore s g core before .masks
+
+-- what the whole decomposition of these units reaches, by the rules, with so many masks
+abbrev pub reachedOf : Settings → Graph → List ℕ → ℕ → Reached
+reachedOf s g all size = decompose (s .masks) (s .weight) (s .budget) g (membersOf all) (replicate size 0)
+
+-- the units were decomposed, whatever the masks were before
+pub record Decomposed (s : Settings) (g : Graph) (all before after : List ℕ) (r : Searched) : Type 0 where
+  pub steps : r .steps ≡ reachedOf s g all (length before) .steps
+  pub stopped : r .stopped ≡ reachedOf s g all (length before) .stopped
+  pub masks : after ≡ reachedOf s g all (length before) .masks
+  pub size : length after ≡ length before

@@ -4,7 +4,7 @@ ghost use Rattle.rules.specs.Answers.{decomposeAnswer};
 ghost use Rattle.rules.specs.Calls.{decomposeLayer, masksAfter};
 ghost use Rattle.rules.specs.Demands.{Demand3Of};
 ghost use Rattle.layout.specs.Flat.{piecesOf};
-use crate::stages::decompose;
+use crate::run::decompose;
 use layout::Judgement;
 use rules::DecomposeAnswer;
 use rules::Place;

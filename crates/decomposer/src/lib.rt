@@ -1,7 +1,8 @@
-// The whole run on pieces as numbers (RULES 8): adjacency, peeling, the search of the core, putting back, the score; of a judged
-// layer, or, with questions 4 to 7 of RULES 11, of any numbers. The public call on records stands on `decompose_flat`.
+// The whole run on pieces as numbers (RULES 8 and 17): edges and units, peeling, the search of the core, putting back, the score; of a
+// judged layer, or, with questions 4 to 7 of RULES 11, of any numbers. The public call on records stands on `decompose_flat`.
 mod flat;
+mod run;
 mod stages;
 
 pub use flat::decompose_flat;
-pub use stages::decompose;
+pub use run::decompose;

@@ -1,28 +1,22 @@
-// The stages of a run, one call each.
+// The stages on the graph of units, one call each.
 ghost use mathlib.Core.Bool.{true};
 ghost use mathlib.Core.List.{[], _∷_};
 ghost use mathlib.Core.Path.{_≡_};
 ghost use lib.ListN.{length, replicate};
-ghost use Rattle.rules.specs.Answers.{runOf};
-ghost use Rattle.rules.specs.Decomposition.{verdictOf, run};
-ghost use Rattle.rules.specs.Demands.{AgainstLarger};
-ghost use Rattle.rules.specs.Questions.{Valid};
 ghost use Rattle.rules.specs.Settings.{settingsInRange};
-ghost use Rattle.layout.specs.Flat.{piecesOf};
-ghost use Rattle.components.specs.Component.{BothWays};
-ghost use Rattle.places.specs.LaidOut.{Exclusive};
-ghost use Rattle.decomposer.specs.Stages.{HasPlaces, SearchedCore};
-use rules::Decomposition;
+ghost use Rattle.layout.specs.UnitGraph.{unitGraph};
+ghost use Rattle.units.specs.Merged.{Merged};
+ghost use Rattle.core_search.specs.Core.{Words};
+ghost use Rattle.decomposer.specs.Stages.{HasPlaces, SearchedCore, Decomposed};
 use rules::Settings;
-use rules::Verdict;
 
 // What the search tells beside the masks.
-struct Searched {
-    steps: u32,
-    stopped: bool,
+pub struct Searched {
+    pub steps: u32,
+    pub stopped: bool,
 }
 
-// Puts every piece on mask 0.
+// Puts mask 0 everywhere.
 fn clear(masks: &mut [u8])
     ensures { λ _. ⌜ now (masks .exit) ≡ replicate (length (now (masks .entry))) 0 ⌝ }
 {
@@ -47,84 +41,86 @@ fn numbers_of(settings: Settings) -> [u64; 6]
     ]
 }
 
-// Open where a step was due beyond the budget.
-fn verdict_of(stopped: bool) -> Verdict
-    ensures { λ r. ⌜ r ≡ verdictOf stopped ⌝ }
-{
-    if stopped {
-        Verdict::Open
-    } else {
-        Verdict::Best
-    }
-}
-
 // Searches the core and puts its masks down.
 fn search(
     settings: Settings,
     conflicts: &[u64; 4096],
     stitches: &[u64; 4096],
+    near: &[u64; 4096],
+    stitched: &[u64; 4096],
+    units: &[u16; 512],
+    n: usize,
     core: &[u64; 8],
     masks: &mut [u8],
 ) -> Searched
     requires { ⌜ settingsInRange settings ≡ true ⌝ }
-    requires { ⌜ Exclusive (now conflicts) (now stitches) ⌝ }
-    requires { ⌜ BothWays (now conflicts) ⌝ }
-    requires { ⌜ BothWays (now stitches) ⌝ }
+    requires { ⌜ Words (now conflicts) (now stitches) (now units) n ⌝ }
+    requires { ⌜ Merged (now conflicts) (now units) n (now near) ⌝ }
+    requires { ⌜ Merged (now stitches) (now units) n (now stitched) ⌝ }
     requires { ⌜ HasPlaces (now core) (now masks) ⌝ }
-    ensures { λ r. ⌜ SearchedCore settings (now (conflicts .entry)) (now (stitches .entry)) (now (core .entry)) (now (masks .entry)) (now (masks .exit)) r ⌝ }
+    ensures { λ r. ⌜ SearchedCore settings (unitGraph (now (conflicts .entry)) (now (stitches .entry)) (now (units .entry)) n) (now (core .entry)) (now (masks .entry)) (now (masks .exit)) r ⌝ }
 {
     let mut numbers = numbers_of(settings);
-    let left = core_search::search_core(conflicts, stitches, core, &mut numbers, masks);
+    let left = core_search::search_core(
+        conflicts,
+        stitches,
+        near,
+        stitched,
+        units,
+        n,
+        core,
+        &mut numbers,
+        masks,
+    );
     Searched {
         steps: settings.budget - left as u32,
         stopped: numbers[1] == 1,
     }
 }
 
-// The run on a judged layer.
-pub fn decompose(
+// Decomposes the units whose numbers are in `all`, and puts the mask of each down at its number.
+pub fn decompose_units(
     settings: Settings,
-    flat: &[u32; 2560],
+    conflicts: &[u64; 4096],
+    stitches: &[u64; 4096],
+    units: &[u16; 512],
     n: usize,
+    all: &[u64; 8],
     masks: &mut [u8],
-) -> Decomposition
-    requires { ⌜ Valid settings (piecesOf (now flat) n) ⌝ }
-    requires { ⌜ length (now masks) ≡ n ⌝ }
-    ensures { λ r. ⌜ runOf r (now (masks .exit)) ≡ run settings (piecesOf (now (flat .entry)) n) ⌝ }
-    ensures { λ r. ⌜ AgainstLarger settings (piecesOf (now (flat .entry)) n) (runOf r (now (masks .exit))) ⌝ }
+) -> Searched
+    requires { ⌜ settingsInRange settings ≡ true ⌝ }
+    requires { ⌜ Words (now conflicts) (now stitches) (now units) n ⌝ }
+    requires { ⌜ HasPlaces (now all) (now masks) ⌝ }
+    ensures { λ r. ⌜ Decomposed settings (unitGraph (now (conflicts .entry)) (now (stitches .entry)) (now (units .entry)) n) (now (all .entry)) (now (masks .entry)) (now (masks .exit)) r ⌝ }
 {
-    let mut conflicts = [0u64; 4096];
-    let mut stitches = [0u64; 4096];
-    layout::adjacency_words(settings, flat, n, &mut conflicts, &mut stitches);
-    let mut there = bitset::below(n);
+    let mut near = [0u64; 4096];
+    let mut stitched = [0u64; 4096];
+    units::merge_words(conflicts, units, n, &mut near);
+    units::merge_words(stitches, units, n, &mut stitched);
+    let mut there = *all;
     let mut vertices = [0u32; 512];
     let mut neighbours = [0u32; 512];
     let k = settings.masks;
     let removed = reduction::peel(
         k,
-        &conflicts,
-        &stitches,
+        &near,
+        &stitched,
         &mut there,
         &mut vertices,
         &mut neighbours,
     );
     clear(masks);
-    let searched = search(settings, &conflicts, &stitches, &there, masks);
-    reduction::put_back(
-        k,
-        &conflicts,
-        &vertices,
-        &neighbours,
-        removed,
+    let searched = search(
+        settings,
+        conflicts,
+        stitches,
+        &near,
+        &stitched,
+        units,
+        n,
         &there,
         masks,
     );
-    let score = scoring::score_words(settings.weight, &conflicts, &stitches, n, masks);
-    Decomposition {
-        conflicts: score.conflicts,
-        stitches: score.stitches,
-        cost: score.cost,
-        steps: searched.steps,
-        verdict: verdict_of(searched.stopped),
-    }
+    reduction::put_back(k, &near, &vertices, &neighbours, removed, &there, masks);
+    searched
 }

@@ -1,23 +1,22 @@
 -- Demand 2: edges are those of the rules' distances, counts and cost are those of the masks, a layer text reads as the one layer that it states, and
 -- a layer that was written is read back unchanged. Hence two different valid layers never have the same text. Assumes nothing.
-use mathlib.Core.List.{List}
-use mathlib.Core.Path.{_≡_, refl, sym, ap, _∙_}
-use Prim.Native.Nat.{ℕ}
-use Rattle.rules.specs.declared.layer.Settings.{Settings}
-use Rattle.rules.specs.declared.layer.Piece.{Piece}
+use mathlib.Core.Path.{_≡_, sym, ap, _∙_}
 use Rattle.rules.specs.LayerText.{layerText}
 use Rattle.rules.specs.Questions.{Outcome, done, refused, Valid, Layer, readLayer}
 use Rattle.rules.specs.Demands.{Demand2}
 use Rattle.rules.proofs.Calls.{decompose-counts}
-use Rattle.rules.proofs.Edges.{conflict-exactly, stitch-exactly, conflicts-exactly, stitches-exactly}
+use Rattle.theory.proofs.Assignments.{scored-exactly}
+use Rattle.rules.proofs.Edges.{conflict-exactly, stitch-exactly, tie-exactly, conflicts-exactly, stitches-exactly}
 use Rattle.text.proofs.WrittenLayers.{read-states, reads-back}
 
 pub demand2 : Demand2
 demand2 = record {
   conflict = conflict-exactly;
   stitch = stitch-exactly;
+  tie = tie-exactly;
   conflicts = conflicts-exactly;
   stitches = stitches-exactly;
+  scored = scored-exactly;
   counts = decompose-counts;
   asStated = λ text l. (read-states text l, λ st. ap readLayer (st .written) ∙ reads-back l (st .valid));
   readsBack = reads-back;

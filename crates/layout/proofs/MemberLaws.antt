@@ -12,7 +12,7 @@ use borrow.Author.Tests.{le-ltb, ltb-true, ltb-false}
 use Rattle.bitset.specs.Bits.{member, First}
 use Rattle.bitset.proofs.Rising.{least-le}
 use Rattle.rules.specs.Basics.{upFrom, upTo, keep, occurs, without}
-use Rattle.rules.proofs.Lists.{_∈_, here, here-or-later, none-in, occurs-in, in-keep, keep-in, keep-same, keep-keep, keep-no-longer, in-upTo, upTo-distinct, upTo-rising, length-upTo, distinct-keep, rising-keep, rising-distinct, without-head, Distinct, Rising}
+use Rattle.rules.proofs.Lists.{_∈_, here, here-or-later, none-in, occurs-in, in-keep, keep-in, keep-same, keep-keep, keep-none, keep-no-longer, in-upTo, upTo-distinct, upTo-rising, length-upTo, distinct-keep, rising-keep, rising-distinct, without-head, without-shorter, Distinct, Rising}
 use Rattle.rules.proofs.Tests.{by-test, both, or-either, same, eqb-sym}
 use Rattle.layout.specs.Members.{membersOf}
 
@@ -21,6 +21,10 @@ use Rattle.layout.specs.Members.{membersOf}
 pub in-members : (s : List ℕ) (u : ℕ) → (u ∈ membersOf s) ↔ ((u < 512) × (member s u ≡ true))
 unfolding membersOf
 in-members s u = (λ m. let r = keep-in (member s) (upTo 512) m in (in-upTo 512 u .0 (r .0), r .1), λ p. in-keep (member s) (in-upTo 512 u .1 (p .0)) (p .1))
+
+pub members-none : (s : List ℕ) → First (member s) 512 → membersOf s ≡ []
+unfolding membersOf
+members-none s first = keep-none (member s) _ (λ u m. first .before u (in-upTo 512 u .0 m))
 
 pub members-distinct : (s : List ℕ) → Distinct (membersOf s)
 unfolding membersOf
@@ -42,7 +46,7 @@ members-occurs s u l = same _ _
 -- ---- the first
 
 -- a rising list begins with its least member
-rising-first : (v : ℕ) (xs : List ℕ) → Rising xs → v ∈ xs → ((u : ℕ) → u ∈ xs → v ≤ u) → xs ≡ v ∷ without v xs
+pub rising-first : (v : ℕ) (xs : List ℕ) → Rising xs → v ∈ xs → ((u : ℕ) → u ∈ xs → v ≤ u) → xs ≡ v ∷ without v xs
 rising-first v [] r m least = none-in m
 rising-first v (x ∷ xs) r m least =
     ⊎-elim
@@ -91,6 +95,11 @@ unfolding membersOf
 members-out s t v out =
     keep-same (member t) (λ u. member s u && not (eqb v u)) (upTo 512) (λ u m. rw (eqb-sym v u) (out u))
     ∙ sym (keep-keep (λ y. not (eqb v y)) (member s) (upTo 512))
+
+-- and there is one less
+pub members-fewer : (s t : List ℕ) (v : ℕ) → v < 512 → member s v ≡ true → ((k : ℕ) → member t k ≡ (member s k && not (eqb k v)))
+    → length (membersOf t) < length (membersOf s)
+members-fewer s t v l e out = rw (members-out s t v out) (without-shorter (in-members s v .1 (l, e)))
 
 -- the members of t are kept of those of s, which has them all
 pub members-kept : (s t : List ℕ) → ((u : ℕ) → u ∈ membersOf t → u ∈ membersOf s) → keep (λ u. occurs u (membersOf t)) (membersOf s) ≡ membersOf t

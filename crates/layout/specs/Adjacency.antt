@@ -9,15 +9,19 @@ use Rattle.bitset.specs.Bits.{hasEdge}
 use Rattle.rules.specs.declared.layer.Settings.{Settings}
 use Rattle.rules.specs.declared.layer.Piece.{Piece}
 use Rattle.rules.specs.Basics.{given}
-use Rattle.rules.specs.Edges.{conflictEdge, stitchEdge, Graph, graphOf}
+use Rattle.rules.specs.Edges.{conflictEdge, stitchEdge, tied, Graph, graphOf}
+use Rattle.rules.specs.Units.{tieGraph}
 use Rattle.layout.specs.Flat.{pieceOf}
 
--- whether pieces a and b are joined by a conflict edge, and by a stitch edge
+-- whether pieces a and b are joined by a conflict edge, by a stitch edge, and by a tie
 abbrev pub conflictOf : Settings → List ℕ → ℕ → ℕ → Bool
 conflictOf s flat a b = conflictEdge s (pieceOf flat a) (pieceOf flat b)
 
 abbrev pub stitchOf : Settings → List ℕ → ℕ → ℕ → Bool
 stitchOf s flat a b = stitchEdge s (pieceOf flat a) (pieceOf flat b)
+
+abbrev pub tieOf : Settings → List ℕ → ℕ → ℕ → Bool
+tieOf s flat a b = tied s (pieceOf flat a) (pieceOf flat b)
 
 -- a and b are i and j, either way
 abbrev pub isPair : ℕ → ℕ → ℕ → ℕ → Bool
@@ -39,6 +43,14 @@ pub record Holds (edges : ℕ → ℕ → ℕ) (n : ℕ) (words : List ℕ) : Ty
 pub record Adjacency (s : Settings) (ps : List Piece) (n : ℕ) (conflictWords stitchWords : List ℕ) : Type 0 where
   pub conflicts : Holds (graphOf s ps .conflicts) n conflictWords
   pub stitches : Holds (graphOf s ps .stitches) n stitchWords
+
+-- the words of ties
+abbrev pub Ties : Settings → List Piece → ℕ → List ℕ → Type 0
+Ties s ps n words = Holds (tieGraph s ps .stitches) n words
+
+-- the words join two numbers both ways or not at all
+abbrev pub BothWays : List ℕ → Type 0
+BothWays words = (a b : ℕ) → a < 512 → b < 512 → hasEdge words a b ≡ hasEdge words b a
 
 -- the graph of adjacency words: two vertices have an edge of a kind where the words of that kind join them
 abbrev pub wordGraph : List ℕ → List ℕ → Graph

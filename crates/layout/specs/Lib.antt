@@ -1,4 +1,5 @@
 pub mod Flat
 pub mod Judged
 pub mod Adjacency
+pub mod UnitGraph
 pub mod Members

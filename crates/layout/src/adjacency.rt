@@ -1,5 +1,5 @@
-// The adjacency words of a judged layer: a bit for each pair of pieces, in words for each kind of edge. Each unordered
-// pair is tested once, from its greater number, and both of its bits are set.
+// The adjacency words of a judged layer: a bit for each pair of pieces, in words for each kind of edge and for ties. Each
+// unordered pair is met once, from its greater number, and both of its bits are set.
 ghost use mathlib.Core.Bool.{true, _&&_, _||_};
 ghost use mathlib.Core.Path.{_≡_};
 ghost use Prim.Native.Nat.{ℕ, _<_, _≤_};
@@ -8,9 +8,10 @@ ghost use Rattle.bitset.specs.Bits.{hasEdge};
 ghost use Rattle.rules.specs.Settings.{settingsInRange, pieceInRange};
 ghost use Rattle.rules.specs.Questions.{Valid};
 ghost use Rattle.layout.specs.Flat.{pieceOf, piecesOf};
-ghost use Rattle.layout.specs.Adjacency.{conflictOf, stitchOf, isPair, RowTo, Adjacency};
+ghost use Rattle.layout.specs.Adjacency.{conflictOf, stitchOf, tieOf, isPair, RowTo, Adjacency, Ties};
 use crate::edges::conflict;
 use crate::edges::stitch;
+use crate::edges::tie;
 use crate::flat::piece_at;
 use rules::Settings;
 
@@ -32,19 +33,21 @@ fn join_where(words: &mut [u64; 4096], i: usize, j: usize, edge: bool)
     }
 }
 
-// Adds the edges between piece j and the pieces before it.
+// Adds the edges and ties between piece j and the pieces before it.
 fn adjacency_row(
     settings: Settings,
     flat: &[u32; 2560],
     j: usize,
     conflicts: &mut [u64; 4096],
     stitches: &mut [u64; 4096],
+    ties: &mut [u64; 4096],
 )
     requires { ⌜ j < 512 ⌝ }
     requires { ⌜ settingsInRange settings ≡ true ⌝ }
     requires { ⌜ ((i : ℕ) → i ≤ j → pieceInRange (pieceOf (now flat) i) ≡ true) ⌝ }
     ensures { λ _. ⌜ RowTo (conflictOf settings (now (flat .entry))) j j (now (conflicts .entry)) (now (conflicts .exit)) ⌝ }
     ensures { λ _. ⌜ RowTo (stitchOf settings (now (flat .entry))) j j (now (stitches .entry)) (now (stitches .exit)) ⌝ }
+    ensures { λ _. ⌜ RowTo (tieOf settings (now (flat .entry))) j j (now (ties .entry)) (now (ties .exit)) ⌝ }
 {
     let p = piece_at(flat, j);
     let mut i = 0;
@@ -52,26 +55,30 @@ fn adjacency_row(
         let q = piece_at(flat, i);
         join_where(conflicts, i, j, conflict(settings, q, p));
         join_where(stitches, i, j, stitch(settings, q, p));
+        join_where(ties, i, j, tie(settings, q, p));
         i += 1;
     }
 }
 
-// Fills the words of both kinds, whatever was in them.
+// Fills the words of edges and ties, whatever was in them.
 pub fn adjacency_words(
     settings: Settings,
     flat: &[u32; 2560],
     n: usize,
     conflicts: &mut [u64; 4096],
     stitches: &mut [u64; 4096],
+    ties: &mut [u64; 4096],
 )
     requires { ⌜ Valid settings (piecesOf (now flat) n) ⌝ }
     ensures { λ _. ⌜ Adjacency settings (piecesOf (now (flat .entry)) n) n (now (conflicts .exit)) (now (stitches .exit)) ⌝ }
+    ensures { λ _. ⌜ Ties settings (piecesOf (now (flat .entry)) n) n (now (ties .exit)) ⌝ }
 {
     clear(conflicts);
     clear(stitches);
+    clear(ties);
     let mut j = 0;
     while j < n {
-        adjacency_row(settings, flat, j, conflicts, stitches);
+        adjacency_row(settings, flat, j, conflicts, stitches, ties);
         j += 1;
     }
 }

@@ -1,4 +1,4 @@
-// The edge between two pieces (RULES 2). Inside, pieces are judged already; the public call judges them as a layer of two.
+// The edge between two pieces (RULES 2 and 17). Inside, pieces are judged already; the public call judges them as a layer of two.
 ghost use mathlib.Core.List.{[], _∷_};
 ghost use mathlib.Core.Bool.{true};
 ghost use mathlib.Core.Path.{_≡_};
@@ -6,7 +6,7 @@ ghost use Prim.Native.Nat.{_*_, _≤_};
 ghost use Rattle.rules.specs.Answers.{edgeAnswer};
 ghost use Rattle.rules.specs.Calls.{edgeBetween};
 ghost use Rattle.rules.specs.Settings.{settingsInRange, pieceInRange};
-ghost use Rattle.rules.specs.Edges.{contact, squaredGap, conflictEdge, stitchEdge, edgeOf};
+ghost use Rattle.rules.specs.Edges.{contact, squaredGap, conflictEdge, stitchEdge, tied, edgeOf};
 ghost use Rattle.rules.specs.Questions.{judgeLayer};
 ghost use Rattle.layout.specs.Judged.{judgement};
 use crate::distance::gap;
@@ -78,6 +78,17 @@ pub fn stitch(settings: Settings, a: Piece, b: Piece) -> bool
     settings.margin <= contact_length(a, b)
 }
 
+// Whether two pieces are tied.
+pub fn tie(settings: Settings, a: Piece, b: Piece) -> bool
+    ensures { λ r. ⌜ r ≡ tied settings a b ⌝ }
+{
+    if a.shape != b.shape {
+        return false;
+    }
+    let length = contact_length(a, b);
+    0 < length && length < settings.margin
+}
+
 // The edge between two pieces that are judged.
 fn judged_edge(settings: Settings, a: Piece, b: Piece) -> Edge
     requires { ⌜ settingsInRange settings ≡ true ⌝ }
@@ -90,6 +101,9 @@ fn judged_edge(settings: Settings, a: Piece, b: Piece) -> Edge
     }
     if stitch(settings, a, b) {
         return Edge::Stitch;
+    }
+    if tie(settings, a, b) {
+        return Edge::Tie;
     }
     Edge::None
 }

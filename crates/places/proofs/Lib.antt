@@ -1,6 +1,10 @@
--- Laws of lists of neighbours, and of the order of places.
+-- Laws of the pieces of units, of lists of neighbours, and of the order of places.
+pub mod Linking
+pub mod Seating
 pub mod Entries
-pub mod Listing
+pub mod Neighbours
+pub mod Counting
 pub mod Laying
 pub mod LocalCost
+pub mod Turns
 pub mod Ordering

@@ -11,15 +11,10 @@ use lib.Seq.{take-suc, take-suc-set, getD-take, getD-set-other, length-take-le}
 use Rattle.bitset.specs.Bits.{member, First}
 use Rattle.rules.specs.Basics.{without}
 use Rattle.rules.specs.Decomposition.{putMasks}
-use Rattle.rules.proofs.Lists.{_∈_, here, later, keep-none, in-upTo}
+use Rattle.rules.proofs.Lists.{_∈_, place-in}
 use Rattle.layout.specs.Members.{membersOf}
-use Rattle.layout.proofs.MemberLaws.{in-members, members-few, members-first, members-out}
+use Rattle.layout.proofs.MemberLaws.{in-members, members-none, members-few, members-first, members-out}
 use Rattle.places.specs.Order.{Ordered}
-
-pub at-in : (xs : List ℕ) (i : ℕ) → i < length xs → getD xs i 0 ∈ xs
-at-in [] i h = absurd (omega arith)
-at-in (x ∷ xs) zero h = here refl
-at-in (x ∷ xs) (suc i) h = later (at-in xs i (omega arith))
 
 -- ---- Members in order
 
@@ -32,10 +27,6 @@ pub record Ordering (members before after rest : List ℕ) (n : ℕ) : Type 0 wh
 
 pub ordering-none : (members before : List ℕ) → length before ≡ 512 → Ordering members before before members 0
 ordering-none members before e = record { order = refl; whole = e; few = omega arith; past = λ i h. refl }
-
-pub members-none : (s : List ℕ) → First (member s) 512 → membersOf s ≡ []
-unfolding membersOf
-members-none s first = keep-none (member s) _ (λ u m. first .before u (in-upTo 512 u .0 m))
 
 module _ {members before after rest : List ℕ} {n : ℕ} (o : Ordering members before after rest n) where
   -- there is a place for one more
@@ -68,7 +59,7 @@ module _ {members before after rest : List ℕ} {n : ℕ} (o : Ordering members 
         order = order;
         few = o .few;
         vertices = λ i h. subst (λ (x : ℕ). x < 512) (getD-take n after i 0 h)
-            (in-members members (getD (take n after) i 0) .0 (subst (λ (xs : List ℕ). getD (take n after) i 0 ∈ xs) order (at-in (take n after) i (omega arith))) .0);
+            (in-members members (getD (take n after) i 0) .0 (subst (λ (xs : List ℕ). getD (take n after) i 0 ∈ xs) order (place-in (take n after) i (omega arith))) .0);
         whole = o .whole;
         past = o .past;
       }

@@ -2,24 +2,26 @@
 -- Assumes nothing.
 use mathlib.Core.Bool.{true}
 use mathlib.Core.List.{List, [], _∷_}
-use mathlib.Core.Path.{_≡_, refl, ap, subst}
-use Prim.Native.Nat.{ℕ, _/_, _%_, _≤_}
+use mathlib.Core.Path.{_≡_, refl, sym, ap, subst}
+use Prim.Native.Nat.{ℕ, zero, suc, _/_, _%_, _≤_, _<_}
 use native.Mathlib.Omega.{arith}
 use lib.Dec.{eqb, leb, ltb}
 use lib.ListN.{length, getD}
-use borrow.Author.Tests.{leb-true}
+use borrow.Author.Tests.{leb-true, eq-eqb}
 use Rattle.rules.specs.declared.layer.Settings.{Settings}
 use Rattle.rules.specs.declared.layer.Piece.{Piece}
 use Rattle.rules.specs.declared.refusal.Place.{Place}
 use Rattle.rules.specs.Settings.{settingsInRange}
 use Rattle.rules.specs.Edges.{edgeOf}
+use Rattle.rules.specs.Score.{maskOf, sameMask}
+use Rattle.rules.specs.Units.{unitOf}
 use Rattle.rules.specs.Decomposition.{Run, run}
 use Rattle.rules.specs.LayerText.{layerText}
 use Rattle.rules.specs.ResultText.{resultText}
 use Rattle.rules.specs.Questions.{Outcome, done, refused, ask, judgeLayer, Valid, Layer, readLayer}
 use Rattle.rules.specs.Calls.{newSettings, edgeBetween, scoreMasks, decomposeLayer, writeLayer, decomposeRead, decomposeText}
 use Rattle.rules.specs.Loader.{loaderNumber, placeFrom}
-use Rattle.rules.specs.Refusals.{Ends, accepts, OfSettings, setting, OfRecords, OfMaskList, records, mask-count, OfMasks, mask-list, mask-range, OfText, size, form, range, area, overlap, OfBuffer, buffer, given}
+use Rattle.rules.specs.Refusals.{Ends, accepts, OfSettings, setting, OfRecords, OfMaskList, records, mask-count, OfMasks, mask-list, mask-range, split, OfText, size, form, range, area, overlap, OfBuffer, buffer, given}
 use Rattle.rules.specs.Demands.{layerScore}
 use Rattle.rules.proofs.Outcomes.{ends-then, ends-ask, ends-each, ends-refused, then-with}
 use Rattle.rules.proofs.Validity.{Sound, sound-valid, judged}
@@ -35,12 +37,22 @@ pub edge-ends : (s : Settings) (a b : Piece) → Ends (λ e. e ≡ edgeOf s a b)
 unfolding edgeBetween
 edge-ends s a b = ends-then (judged s (a ∷ b ∷ [])) λ _ _. accepts refl
 
-pub score-ends : (s : Settings) (ps : List Piece) (masks : List ℕ) → Ends (λ r. r ≡ layerScore s ps masks) (OfMasks (length ps)) (scoreMasks s ps masks)
+-- 12 of piece i; the first piece has its own mask
+split-ends : (s : Settings) (ps : List Piece) (masks : List ℕ) → (0 < length ps → unitOf s ps 0 ≡ 0)
+    → (i : ℕ) → i < length ps → Ends (λ _. sameMask masks i (unitOf s ps i) ≡ true) (OfMasks (length ps)) (ask (sameMask masks i (unitOf s ps i)) 12 (Place.Piece i))
+split-ends s ps masks first zero h =
+    let same : sameMask masks 0 (unitOf s ps 0) ≡ true = eq-eqb (maskOf masks 0) (maskOf masks (unitOf s ps 0)) (ap (maskOf masks) (sym (first h))) in
+    rw same (accepts refl)
+split-ends s ps masks first (suc i) h = ends-ask (sameMask masks (suc i) (unitOf s ps (suc i))) 12 (Place.Piece (suc i)) (split (omega arith) h)
+
+pub score-ends : ((s : Settings) (ps : List Piece) → 0 < length ps → unitOf s ps 0 ≡ 0)
+    → (s : Settings) (ps : List Piece) (masks : List ℕ) → Ends (λ r. r ≡ layerScore s ps masks) (OfMasks (length ps)) (scoreMasks s ps masks)
 unfolding scoreMasks
-score-ends s ps masks =
+score-ends first s ps masks =
     ends-then (ends-refused (λ _ _ r. mask-list (records r)) (judged s ps)) λ _ _.
     ends-then (ends-ask (eqb (length masks) (length ps)) 7 _ (mask-list mask-count)) λ _ _.
     ends-then (ends-each _ (length ps) (λ i h. ends-ask (ltb (getD masks i 0) (s .masks)) 8 _ (mask-range h))) λ _ _.
+    ends-then (ends-each _ (length ps) (split-ends s ps masks (first s ps))) λ _ _.
     accepts refl
 
 -- ---- Calls whose value is made of a valid layer

@@ -9,12 +9,13 @@ use Rattle.rules.specs.declared.layer.Edge.{Edge}
 use Rattle.rules.specs.declared.layer.Settings.{Settings}
 use Rattle.rules.specs.declared.layer.Piece.{Piece}
 use Rattle.rules.specs.declared.answers.Verdict.{Verdict}
-use Rattle.rules.specs.Basics.{sumTo, sumPairs, upFrom, anyOf, countOf, keep, find}
+use Rattle.rules.specs.Basics.{sumTo, sumPairs, sumOf, upFrom, anyOf, countOf, keep, find}
 use Rattle.rules.specs.Settings.{settingsInRange, pieceInRange, hasArea}
-use Rattle.rules.specs.Edges.{overlapX, overlapY, gapX, gapY, squaredGap, conflictEdge, contact, stitchEdge, edgeOf, overlapping}
+use Rattle.rules.specs.Edges.{overlapX, overlapY, gapX, gapY, squaredGap, conflictEdge, contact, stitchEdge, tied, edgeOf, overlapping}
 use Rattle.rules.specs.Score.{conflictsOf, stitchesOf, scoreOf, pairCost}
 use Rattle.rules.specs.Peeling.{mayGo, peelFor}
 use Rattle.rules.specs.Components.{reachFor, componentsFor}
+use Rattle.rules.specs.Units.{partOf, edgesBetween, spread}
 use Rattle.rules.specs.Search.{added, totalAfter, cheapest, firstAfter, different, candidates, tryMasks, searchPlaces, completeMasks, completePlaces}
 use Rattle.rules.specs.Decomposition.{putMasks, searchAll, putBack, putBackAll, decompose, completeAll, complete, stepsInAll, Run, run}
 use Rattle.rules.specs.Lines.{ascii, digitsFor, commaList, line, numberLines, firstLine, afterKey, allDigits, isNumeral, valueAfter, partsOf, numbersOf, lineNumbers, lineOf}
@@ -112,7 +113,7 @@ pub record Cases : Type 0 where
   pub gaps-48-63 : toOther 68 83 ≡ done Edge.Conflict
   pub gaps-48-64 : toOther 68 84 ≡ done Edge.None
   pub contact-10 : toOwn 10 ≡ done Edge.Stitch
-  pub contact-9 : toOwn 11 ≡ done Edge.None
+  pub contact-9 : toOwn 11 ≡ done Edge.Tie
   -- the budget ends in the first component, between the two, in the second, and after it
   pub two-parts-at-6 : decomposed (settingsOf 2 6) twoParts ≡ done (result (0 ∷ 0 ∷ 1 ∷ 0 ∷ 0 ∷ 1 ∷ 0 ∷ []) 2 0 20 6 Verdict.Open)
   pub two-parts-at-11 : decomposed (settingsOf 2 11) twoParts ≡ done (result (0 ∷ 1 ∷ 1 ∷ 0 ∷ 0 ∷ 1 ∷ 0 ∷ []) 1 1 11 11 Verdict.Open)
@@ -126,7 +127,7 @@ pub record Cases : Type 0 where
   pub stitches-paid : decomposed (settingsOf 2 1000) between ≡ done (result (0 ∷ 1 ∷ 1 ∷ 0 ∷ 0 ∷ 1 ∷ []) 0 2 2 29 Verdict.Best)
 
 pub cases : Cases
-unfolding sumTo sumPairs upFrom anyOf countOf keep find settingsInRange pieceInRange hasArea overlapX overlapY gapX gapY squaredGap conflictEdge contact stitchEdge edgeOf overlapping conflictsOf stitchesOf scoreOf pairCost mayGo peelFor reachFor componentsFor added totalAfter cheapest firstAfter different candidates tryMasks searchPlaces completeMasks completePlaces putMasks searchAll putBack putBackAll decompose completeAll complete run ascii digitsFor commaList line numberLines firstLine afterKey allDigits isNumeral valueAfter partsOf numbersOf lineNumbers lineOf pieceLines layerText maskLines resultText askEach judgePiece judgeOverlaps judgeLayer readLine readNumber readNumbers readHeader readPiece readPieces layerFrom readBody readLayer edgeBetween decomposeLayer decomposeText
+unfolding sumTo sumPairs sumOf upFrom anyOf countOf keep find settingsInRange pieceInRange hasArea overlapX overlapY gapX gapY squaredGap conflictEdge contact stitchEdge tied edgeOf overlapping conflictsOf stitchesOf scoreOf pairCost mayGo peelFor reachFor componentsFor partOf edgesBetween spread added totalAfter cheapest firstAfter different candidates tryMasks searchPlaces completeMasks completePlaces putMasks searchAll putBack putBackAll decompose completeAll complete run ascii digitsFor commaList line numberLines firstLine afterKey allDigits isNumeral valueAfter partsOf numbersOf lineNumbers lineOf pieceLines layerText maskLines resultText askEach judgePiece judgeOverlaps judgeLayer readLine readNumber readNumbers readHeader readPiece readPieces layerFrom readBody readLayer edgeBetween decomposeLayer decomposeText
 cases = record {
   row-text = refl;
   row-2 = refl;

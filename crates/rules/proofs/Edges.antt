@@ -1,7 +1,7 @@
 -- Edges have no direction, since distance and contact are the same both ways. In a valid layer no piece is joined to itself: it has its own shape, and
 -- as it has width and height it nowhere meets itself, so its contact with itself is 0, which is below every margin. The edge between two pieces is the
 -- one that their shapes, distance and contact give. Assumes nothing.
-use mathlib.Core.Bool.{Bool, true, false, not, cond}
+use mathlib.Core.Bool.{Bool, true, false, not, _&&_, cond}
 use mathlib.Core.List.{List}
 use mathlib.Core.Logic.{_↔_}
 use mathlib.Core.Path.{_≡_, refl, sym, _∙_}
@@ -16,9 +16,9 @@ use Rattle.rules.specs.declared.layer.Piece.{Piece}
 use Rattle.rules.specs.declared.layer.Edge.{Edge}
 use Rattle.rules.specs.Basics.{given}
 use Rattle.rules.specs.Settings.{settingsInRange, hasArea, pieceAt}
-use Rattle.rules.specs.Edges.{overlapX, overlapY, gapX, gapY, sameShape, squaredGap, conflictEdge, contact, stitchEdge, edgeOf, Graph, graphOf, joined}
+use Rattle.rules.specs.Edges.{overlapX, overlapY, gapX, gapY, sameShape, squaredGap, conflictEdge, contact, stitchEdge, tied, edgeOf, Graph, graphOf, joined}
 use Rattle.rules.specs.Questions.{Valid}
-use Rattle.rules.specs.Demands.{TooClose, Stitchable}
+use Rattle.rules.specs.Demands.{TooClose, Stitchable, TooLittle}
 use Rattle.rules.proofs.Tests.{by-test, clash, eqb-sym, both}
 use Rattle.rules.proofs.Ranges.{settings-facts, area-facts}
 use Rattle.rules.proofs.Validity.{valid-sound}
@@ -49,6 +49,10 @@ pub stitch-sym : (s : Settings) (p q : Piece) → stitchEdge s p q ≡ stitchEdg
 unfolding stitchEdge contact
 stitch-sym s p q = rw (eqb-sym (p .shape) (q .shape), gapX-sym p q, gapY-sym p q, overlapX-sym p q, overlapY-sym p q)
 
+pub tie-sym : (s : Settings) (p q : Piece) → tied s p q ≡ tied s q p
+unfolding tied contact
+tie-sym s p q = rw (eqb-sym (p .shape) (q .shape), gapX-sym p q, gapY-sym p q, overlapX-sym p q, overlapY-sym p q)
+
 pub record Undirected (g : Graph) : Type 0 where
   pub conflicts : (u v : ℕ) → g .conflicts u v ≡ g .conflicts v u
   pub stitches : (u v : ℕ) → g .stitches u v ≡ g .stitches v u
@@ -78,6 +82,10 @@ pub no-self-stitch : (s : Settings) (p : Piece) → settingsInRange s ≡ true �
 unfolding stitchEdge
 no-self-stitch s p r a = rw (eq-eqb (p .shape) (p .shape) refl, self-contact p a, lt-leb (s .margin) 0 (settings-facts s r .margin .low))
 
+pub no-self-tie : (s : Settings) (p : Piece) → hasArea p ≡ true → tied s p p ≡ false
+unfolding tied
+no-self-tie s p a = rw (eq-eqb (p .shape) (p .shape) refl, self-contact p a)
+
 pub loopless : (s : Settings) (ps : List Piece) → Valid s ps → (v : ℕ) → v < length ps → joined (graphOf s ps) v v ≡ false
 loopless s ps valid v l =
     let f = valid-sound s ps valid in
@@ -100,32 +108,67 @@ module _ (s : Settings) (p q : Piece) where
     λ c. rw (eq-eqb (p .shape) (q .shape) (c .shape), le-leb (s .margin) (contact p q) (c .touching)),
   )
 
+  pub tie-test : (tied s p q ≡ true) ↔ TooLittle s p q
+  unfolding tied
+  tie-test = (
+    λ e.
+        let b = both (sameShape p q && ltb 0 (contact p q)) (ltb (contact p q) (s .margin)) e in
+        let c = both (sameShape p q) (ltb 0 (contact p q)) (b .0) in
+        record { shape = eqb-true (p .shape) (q .shape) (c .0); touching = ltb-true 0 (contact p q) (c .1); short = ltb-true (contact p q) (s .margin) (b .1) },
+    λ c. rw (eq-eqb (p .shape) (q .shape) (c .shape), lt-ltb 0 (contact p q) (c .touching), lt-ltb (contact p q) (s .margin) (c .short)),
+  )
+
   -- the edge found is the one that the tests give
-  edge-by : (x y : Bool) → conflictEdge s p q ≡ x → stitchEdge s p q ≡ y → edgeOf s p q ≡ cond x Edge.Conflict (cond y Edge.Stitch Edge.None)
+  edge-by : (x y z : Bool) → conflictEdge s p q ≡ x → stitchEdge s p q ≡ y → tied s p q ≡ z
+      → edgeOf s p q ≡ cond x Edge.Conflict (cond y Edge.Stitch (cond z Edge.Tie Edge.None))
   unfolding edgeOf
-  edge-by x y e f = rw (e, f)
+  edge-by x y z e f g = rw (e, f, g)
 
   -- a stitch edge joins one shape, a conflict edge two
   pub one-kind : conflictEdge s p q ≡ true → stitchEdge s p q ≡ true → ⊥
   one-kind e f = conflict-test .0 e .shapes (stitch-test .0 f .shape)
 
+  -- tied pieces have no edge
+  tied-no-conflict : tied s p q ≡ true → conflictEdge s p q ≡ true → ⊥
+  tied-no-conflict t e = conflict-test .0 e .shapes (tie-test .0 t .shape)
+
+  tied-no-stitch : tied s p q ≡ true → stitchEdge s p q ≡ true → ⊥
+  tied-no-stitch t f = omega (arith, tie-test .0 t .short, stitch-test .0 f .touching)
+
   other-edge : {A : Type 0} {e f : Edge} → edgeOf s p q ≡ e → edgeOf s p q ≡ f → (e ≡ f → _≡_ {A = ℕ} 0 1) → A
   other-edge x y n = let z : _≡_ {A = ℕ} 0 1 = n (sym x ∙ y) in absurd (omega arith)
 
+  -- the four answers, with the test that gives each
+  by-edge : {A : Type 0} → (conflictEdge s p q ≡ true → edgeOf s p q ≡ Edge.Conflict → A)
+      → (stitchEdge s p q ≡ true → edgeOf s p q ≡ Edge.Stitch → A)
+      → (tied s p q ≡ true → edgeOf s p q ≡ Edge.Tie → A)
+      → (edgeOf s p q ≡ Edge.None → A) → A
+  by-edge c t m n =
+      by-test (conflictEdge s p q) (λ f. c f (edge-by true (stitchEdge s p q) (tied s p q) f refl refl)) λ f.
+      by-test (stitchEdge s p q) (λ g. t g (edge-by false true (tied s p q) f g refl)) λ g.
+      by-test (tied s p q) (λ h. m h (edge-by false false true f g h)) λ h.
+      n (edge-by false false false f g h)
+
   pub conflict-exactly : (edgeOf s p q ≡ Edge.Conflict) ↔ TooClose s p q
   conflict-exactly = (
-    λ e. by-test (conflictEdge s p q) (conflict-test .0) (λ f. by-test (stitchEdge s p q)
-        (λ g. other-edge e (edge-by false true f g) (λ h. cc h))
-        (λ g. other-edge e (edge-by false false f g) (λ h. cc h))),
-    λ c. edge-by true (stitchEdge s p q) (conflict-test .1 c) refl,
+    λ e. by-edge (λ f _. conflict-test .0 f) (λ _ x. other-edge e x (λ h. cc h)) (λ _ x. other-edge e x (λ h. cc h)) (λ x. other-edge e x (λ h. cc h)),
+    λ c. edge-by true (stitchEdge s p q) (tied s p q) (conflict-test .1 c) refl refl,
   )
 
   pub stitch-exactly : (edgeOf s p q ≡ Edge.Stitch) ↔ Stitchable s p q
   stitch-exactly = (
-    λ e. by-test (conflictEdge s p q) (λ f. other-edge e (edge-by true (stitchEdge s p q) f refl) (λ h. cc h)) (λ f. by-test (stitchEdge s p q)
-        (stitch-test .0)
-        (λ g. other-edge e (edge-by false false f g) (λ h. cc h))),
-    λ c. by-test (conflictEdge s p q) (λ f. absurd (one-kind f (stitch-test .1 c))) (λ f. edge-by false true f (stitch-test .1 c)),
+    λ e. by-edge (λ _ x. other-edge e x (λ h. cc h)) (λ f _. stitch-test .0 f) (λ _ x. other-edge e x (λ h. cc h)) (λ x. other-edge e x (λ h. cc h)),
+    λ c. by-test (conflictEdge s p q) (λ f. absurd (one-kind f (stitch-test .1 c))) (λ f. edge-by false true (tied s p q) f (stitch-test .1 c) refl),
+  )
+
+  pub tie-exactly : (edgeOf s p q ≡ Edge.Tie) ↔ TooLittle s p q
+  tie-exactly = (
+    λ e. by-edge (λ _ x. other-edge e x (λ h. cc h)) (λ _ x. other-edge e x (λ h. cc h)) (λ f _. tie-test .0 f) (λ x. other-edge e x (λ h. cc h)),
+    λ c.
+        let t = tie-test .1 c in
+        by-test (conflictEdge s p q) (λ f. absurd (tied-no-conflict t f)) λ f.
+        by-test (stitchEdge s p q) (λ g. absurd (tied-no-stitch t g)) λ g.
+        edge-by false false true f g t,
   )
 
 given-one : (b : Bool) → (given b 1 ≡ 1) ↔ (b ≡ true)

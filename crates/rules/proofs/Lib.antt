@@ -1,5 +1,6 @@
 -- What is proved of the definitions themselves.
 pub mod Cases
+pub mod TieCases
 pub mod Examples
 pub mod Tests
 pub mod Lists

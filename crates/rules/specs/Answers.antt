@@ -33,6 +33,7 @@ refusalNumber Refusal.MaskRange = 8
 refusalNumber Refusal.Record = 9
 refusalNumber Refusal.Rectangle = 10
 refusalNumber Refusal.Unit = 11
+refusalNumber Refusal.Split = 12
 
 abbrev pub settingsAnswer : SettingsAnswer → Outcome Settings
 settingsAnswer (SettingsAnswer.Accepted s) = done s

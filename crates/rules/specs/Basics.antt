@@ -19,6 +19,11 @@ sumTo f (suc n) = sumTo f n + f n
 unfoldable pub sumPairs : (ℕ → ℕ → ℕ) → ℕ → ℕ
 sumPairs f n = sumTo (λ v. sumTo (λ u. f u v) v) n
 
+-- the sum of f over a list
+unfoldable pub sumOf : (ℕ → ℕ) → List ℕ → ℕ
+sumOf f [] = 0
+sumOf f (x ∷ xs) = f x + sumOf f xs
+
 -- m, m + 1, ..: k of them
 unfoldable pub upFrom : ℕ → ℕ → List ℕ
 upFrom m zero = []

@@ -10,7 +10,8 @@ use Rattle.rules.specs.declared.answers.Score.{Score}
 use Rattle.rules.specs.declared.refusal.Place.{Place}
 use Rattle.rules.specs.Settings.{settingsInRange}
 use Rattle.rules.specs.Edges.{edgeOf, graphOf}
-use Rattle.rules.specs.Score.{scoreOf}
+use Rattle.rules.specs.Score.{sameMask, scoreOf}
+use Rattle.rules.specs.Units.{unitOf}
 use Rattle.rules.specs.Decomposition.{Run, run}
 use Rattle.rules.specs.LayerText.{layerText}
 use Rattle.rules.specs.ResultText.{resultText}
@@ -28,12 +29,13 @@ newSettings masks spacing margin weight budget =
 unfoldable pub edgeBetween : Settings → Piece → Piece → Outcome Edge
 edgeBetween s a b = andThen (judgeLayer s (a ∷ b ∷ [])) λ _. done (edgeOf s a b)
 
--- the score of given masks
+-- the score of given masks, which do not split a unit
 unfoldable pub scoreMasks : Settings → List Piece → List ℕ → Outcome Score
 scoreMasks s ps masks =
     andThen (judgeLayer s ps) λ _.
     andThen (ask (eqb (length masks) (length ps)) 7 Place.Nothing) λ _.
     andThen (askEach (λ i. ask (ltb (getD masks i 0) (s .masks)) 8 (Place.Piece i)) (length ps)) λ _.
+    andThen (askEach (λ i. ask (sameMask masks i (unitOf s ps i)) 12 (Place.Piece i)) (length ps)) λ _.
     done (scoreOf (s .weight) (graphOf s ps) masks (length ps))
 
 -- the whole decomposition, with a lent list for the masks

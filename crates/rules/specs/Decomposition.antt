@@ -12,6 +12,7 @@ use Rattle.rules.specs.Edges.{Graph, inConflict, graphOf}
 use Rattle.rules.specs.Score.{maskOf, scoreOf}
 use Rattle.rules.specs.Peeling.{Removal, low, pendant, Peeled, peel}
 use Rattle.rules.specs.Components.{components}
+use Rattle.rules.specs.Units.{unitOf, mergedGraph, unitNumbers, spread}
 use Rattle.rules.specs.Search.{localGraph, searchFrom, completeFrom}
 
 -- the masks ms of a component's places, put down at its vertices
@@ -64,9 +65,15 @@ decompose K weight budget g vs masks =
     let searched = searchAll K weight budget g (components g (peeled .core)) (record { steps = 0; stopped = false; masks = masks }) in
     record { steps = searched .steps; stopped = searched .stopped; masks = withReturned K g peeled (searched .masks) }
 
+-- The vertices 0, 1, .., n - 1 of g are merged into units: these are decomposed, and every vertex has its unit's mask.
+abbrev pub decomposeUnits : ℕ → ℕ → ℕ → Graph → (ℕ → ℕ) → ℕ → Reached
+decomposeUnits K weight budget g unit n =
+    let r = decompose K weight budget (mergedGraph unit n g) (unitNumbers unit n) (replicate n 0) in
+    record { steps = r .steps; stopped = r .stopped; masks = spread unit n (r .masks) }
+
 -- what is reached on a layer at the settings' budget
 abbrev pub reached : Settings → List Piece → Reached
-reached s ps = decompose (s .masks) (s .weight) (s .budget) (graphOf s ps) (upTo (length ps)) (replicate (length ps) 0)
+reached s ps = decomposeUnits (s .masks) (s .weight) (s .budget) (graphOf s ps) (unitOf s ps) (length ps)
 
 -- ---- Without a budget
 
@@ -88,9 +95,15 @@ complete K weight g vs masks =
     let searched = completeAll K weight g (components g (peeled .core)) (record { steps = 0; masks = masks }) in
     record { steps = searched .steps; masks = withReturned K g peeled (searched .masks) }
 
--- the same for a layer; the settings' budget plays no part in it
+-- the same for units
+abbrev pub completeUnits : ℕ → ℕ → Graph → (ℕ → ℕ) → ℕ → Completed
+completeUnits K weight g unit n =
+    let r = complete K weight (mergedGraph unit n g) (unitNumbers unit n) (replicate n 0) in
+    record { steps = r .steps; masks = spread unit n (r .masks) }
+
+-- and for a layer; the settings' budget plays no part in it
 abbrev pub completed : Settings → List Piece → Completed
-completed s ps = complete (s .masks) (s .weight) (graphOf s ps) (upTo (length ps)) (replicate (length ps) 0)
+completed s ps = completeUnits (s .masks) (s .weight) (graphOf s ps) (unitOf s ps) (length ps)
 
 -- how many steps the search takes on a layer in all
 abbrev pub stepsInAll : Settings → List Piece → ℕ

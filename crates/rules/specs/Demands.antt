@@ -12,7 +12,7 @@ use Rattle.rules.specs.declared.refusal.Place.{Place}
 use Rattle.rules.specs.declared.answers.Score.{Score}
 use Rattle.rules.specs.declared.answers.Verdict.{Verdict}
 use Rattle.rules.specs.Settings.{settingsInRange, pieceAt}
-use Rattle.rules.specs.Edges.{squaredGap, contact, edgeOf, graphOf}
+use Rattle.rules.specs.Edges.{squaredGap, contact, tied, edgeOf, graphOf}
 use Rattle.rules.specs.Score.{scoreOf}
 use Rattle.rules.specs.Decomposition.{Run, run, reached, completed, stepsInAll}
 use Rattle.rules.specs.LayerText.{layerText}
@@ -21,10 +21,11 @@ use Rattle.rules.specs.Stream.{readStream}
 use Rattle.rules.specs.Calls.{newSettings, edgeBetween, scoreMasks, decomposeLayer, masksAfter, writeLayer, decomposeText, decomposeStream, bufferAfter}
 use Rattle.rules.specs.Refusals.{Ends, OfSettings, OfRecords, OfMaskList, OfMasks, OfText, OfStream, OfBuffer}
 
--- an assignment of these pieces to these masks: a list of n masks, each below K
+-- an assignment of these pieces to these masks: a list of n masks, each below K, that breaks no tie
 pub record Assignment (s : Settings) (ps : List Piece) (masks : List ℕ) : Type 0 where
   pub size : length masks ≡ length ps
   pub below : (i : ℕ) → i < length ps → getD masks i 0 < s .masks
+  pub ties : (i j : ℕ) → i < length ps → j < length ps → tied s (pieceAt ps i) (pieceAt ps j) ≡ true → getD masks i 0 ≡ getD masks j 0
 
 -- what masks score on a layer
 abbrev pub layerScore : Settings → List Piece → List ℕ → Score
@@ -50,7 +51,7 @@ pub record Demand1 : Type 0 where
 
 -- ---- Demand 2: edges and counts are those of the rules, and texts state layers
 
--- what joins two pieces by a conflict edge, and by a stitch edge
+-- what joins two pieces by a conflict edge, by a stitch edge, and by a tie
 pub record TooClose (s : Settings) (p q : Piece) : Type 0 where
   pub shapes : p .shape ≡ q .shape → ⊥
   pub near : squaredGap p q < s .spacing * s .spacing
@@ -58,6 +59,11 @@ pub record TooClose (s : Settings) (p q : Piece) : Type 0 where
 pub record Stitchable (s : Settings) (p q : Piece) : Type 0 where
   pub shape : p .shape ≡ q .shape
   pub touching : s .margin ≤ contact p q
+
+pub record TooLittle (s : Settings) (p q : Piece) : Type 0 where
+  pub shape : p .shape ≡ q .shape
+  pub touching : 0 < contact p q
+  pub short : contact p q < s .margin
 
 -- a text states a layer
 pub record States (text : List ℕ) (l : Layer) : Type 0 where
@@ -68,9 +74,12 @@ pub record States (text : List ℕ) (l : Layer) : Type 0 where
 pub record Demand2 : Type 0 where
   pub conflict : (s : Settings) (p q : Piece) → (edgeOf s p q ≡ Edge.Conflict) ↔ TooClose s p q
   pub stitch : (s : Settings) (p q : Piece) → (edgeOf s p q ≡ Edge.Stitch) ↔ Stitchable s p q
+  pub tie : (s : Settings) (p q : Piece) → (edgeOf s p q ≡ Edge.Tie) ↔ TooLittle s p q
   -- the graph of a layer has just these edges
   pub conflicts : (s : Settings) (ps : List Piece) (u v : ℕ) → (graphOf s ps .conflicts u v ≡ 1) ↔ TooClose s (pieceAt ps u) (pieceAt ps v)
   pub stitches : (s : Settings) (ps : List Piece) (u v : ℕ) → (graphOf s ps .stitches u v ≡ 1) ↔ Stitchable s (pieceAt ps u) (pieceAt ps v)
+  -- masks are scored if they are an assignment of a valid layer, and only then
+  pub scored : (s : Settings) (ps : List Piece) (masks : List ℕ) → (scoreMasks s ps masks ≡ done (layerScore s ps masks)) ↔ (Valid s ps × Assignment s ps masks)
   -- counts and cost belong to the masks
   pub counts : (s : Settings) (ps : List Piece) (lent : List ℕ) (r : Run) → decomposeLayer s ps lent ≡ done r
       → record { conflicts = r .conflicts; stitches = r .stitches; cost = r .cost } ≡ layerScore s ps (r .masks)

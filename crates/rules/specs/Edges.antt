@@ -48,14 +48,19 @@ contact p q = cond (meetX p q) (overlapY p q) (cond (meetY p q) (overlapX p q) 0
 unfoldable pub stitchEdge : Settings → Piece → Piece → Bool
 stitchEdge s p q = sameShape p q && leb (s .margin) (contact p q)
 
+-- A tie: one shape, and contact above 0 and below the margin. Where two pieces touch in a point their contact is 0, which ties nothing.
+unfoldable pub tied : Settings → Piece → Piece → Bool
+tied s p q = sameShape p q && ltb 0 (contact p q) && ltb (contact p q) (s .margin)
+
 unfoldable pub edgeOf : Settings → Piece → Piece → Edge
-edgeOf s p q = cond (conflictEdge s p q) Edge.Conflict (cond (stitchEdge s p q) Edge.Stitch Edge.None)
+edgeOf s p q = cond (conflictEdge s p q) Edge.Conflict (cond (stitchEdge s p q) Edge.Stitch (cond (tied s p q) Edge.Tie Edge.None))
 
 -- Two pieces of one shape overlap.
 unfoldable pub overlapping : Piece → Piece → Bool
 overlapping p q = sameShape p q && ltb 0 (overlapX p q) && ltb 0 (overlapY p q)
 
--- The decomposition graph: for two vertices, the number of their conflict edges and that of their stitch edges. The rules from here on see only this graph.
+-- A graph: for two vertices, the number of their conflict edges and that of their stitch edges. The rules of peeling, components and the search see
+-- only such a graph.
 pub record Graph : Type 0 where
   pub conflicts : ℕ → ℕ → ℕ
   pub stitches : ℕ → ℕ → ℕ
@@ -70,7 +75,7 @@ inStitch g u v = ltb 0 (g .stitches u v)
 abbrev pub joined : Graph → ℕ → ℕ → Bool
 joined g u v = inConflict g u v || inStitch g u v
 
--- the graph of a layer: its vertices are the pieces' numbers, and two of them have at most one edge
+-- the graph of a layer's pieces: its vertices are the pieces' numbers, and two of them have at most one edge
 abbrev pub graphOf : Settings → List Piece → Graph
 graphOf s ps = record {
   conflicts = λ u v. given (conflictEdge s (pieceAt ps u) (pieceAt ps v)) 1;

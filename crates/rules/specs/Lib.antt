@@ -4,6 +4,7 @@ pub mod Edges
 pub mod Score
 pub mod Peeling
 pub mod Components
+pub mod Units
 pub mod Search
 pub mod Decomposition
 pub mod Lines

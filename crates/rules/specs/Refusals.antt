@@ -29,10 +29,11 @@ pub data OfMaskList (n : ℕ) : ℕ → Place → Type 0 where
   records : {number : ℕ} {place : Place} → OfRecords n number place → OfMaskList n number place
   mask-count : OfMaskList n 7 Place.Nothing
 
--- the refusals of scoring: those, then 8
+-- the refusals of scoring: those, then 8, then 12; the first piece is the lowest of its unit
 pub data OfMasks (n : ℕ) : ℕ → Place → Type 0 where
   mask-list : {number : ℕ} {place : Place} → OfMaskList n number place → OfMasks n number place
   mask-range : {i : ℕ} → i < n → OfMasks n 8 (Place.Piece i)
+  split : {i : ℕ} → 1 ≤ i → i < n → OfMasks n 12 (Place.Piece i)
 
 -- how many lines a text has, each ended by byte 10
 abbrev pub lineCount : List ℕ → ℕ

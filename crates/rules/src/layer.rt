@@ -115,9 +115,10 @@ impl Piece {
     pub const COUNT_GREATEST: usize = 512;
 }
 
-// How two pieces are joined in the decomposition graph.
+// How two pieces are joined: by an edge of the one or the other kind, or by a tie, which puts both on one mask.
 pub enum Edge {
     Conflict,
     Stitch,
+    Tie,
     None,
 }

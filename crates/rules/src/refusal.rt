@@ -16,6 +16,7 @@ pub enum Refusal {
     Record,
     Rectangle,
     Unit,
+    Split,
 }
 
 impl Refusal {
@@ -35,6 +36,7 @@ impl Refusal {
             Refusal::Record => 9,
             Refusal::Rectangle => 10,
             Refusal::Unit => 11,
+            Refusal::Split => 12,
         }
     }
 }

@@ -17,7 +17,8 @@ use Rattle.rules.specs.Answers.{scoreAnswer}
 use Rattle.rules.specs.Calls.{scoreMasks}
 use Rattle.rules.specs.Edges.{graphOf}
 use Rattle.rules.specs.Questions.{Outcome, done, refused, ask, andThen, askEach, Valid, judgeLayer, readLayer}
-use Rattle.rules.specs.Score.{scoreOf}
+use Rattle.rules.specs.Score.{sameMask, scoreOf}
+use Rattle.rules.specs.Units.{unitOf}
 use Rattle.rules.proofs.Outcomes.{accepted, ends-ask, ends-each, each-ext, ask-yes, then-same}
 use Rattle.rules.proofs.Ranges.{within-facts, settings-facts}
 use Rattle.rules.proofs.Tests.{by-test, same}
@@ -94,7 +95,8 @@ same-score s ps ns =
     let all = eqb-true (length ns) (length ps) (ask-yes (eqb (length ns) (length ps)) 7 Place.Nothing counts) in
     rw (asked s ps ns valid all)
     (then-same (askEach (question s ps ns valid all ns) (length ps)) λ _ below.
-    ap (λ (ms : List ℕ). done (scoreOf (s .weight) (graphOf s ps) ms (length ps))) (as-numbers s ps ns valid all below)))
+    ap (λ (ms : List ℕ). andThen (askEach (λ i. ask (sameMask ms i (unitOf s ps i)) 12 (Place.Piece i)) (length ps)) λ _. done (scoreOf (s .weight) (graphOf s ps) ms (length ps)))
+    (as-numbers s ps ns valid all below)))
 
 -- masks that were stored from a text of mask lines, in room for 513
 pub scored-numbers : (layer text masks : List ℕ) (count : ℕ) (answer : ScoreAnswer) → AllStored text masks count → length masks ≡ 513

@@ -1,13 +1,17 @@
 // Does the first stages of a run, as often as asked, so that a clock outside this program can tell the stages apart (bench/stages). The standard
 // input is a line `stages=LAST,REPEATS` and a layer text. LAST is the last stage to do:
 //
-// 0 none, 1 reading the text, 2 judging the numbers, 3 adjacency words, 4 peeling, 5 the search of the core, 6 putting back and the score, 7 writing
-// the result text, 8 printing it.
+// 0 none, 1 reading the text, 2 judging the numbers, 3 adjacency words and units, 4 the words of units, 5 peeling, 6 the search of the core, 7 putting
+// back and the score, 8 writing the result text, 9 printing it.
+ghost use mathlib.Core.Bool.{true};
 ghost use mathlib.Core.List.{[], _∷_};
 ghost use mathlib.Core.Path.{_≡_};
 ghost use lib.ListN.{length};
 ghost use Rattle.rules.specs.Questions.{Valid};
+ghost use Rattle.rules.specs.Settings.{settingsInRange};
 ghost use Rattle.layout.specs.Flat.{piecesOf};
+ghost use Rattle.core_search.specs.Core.{Words};
+ghost use Rattle.decomposer.specs.Stages.{HasPlaces};
 use layout::Judgement;
 use libc::STDIN_FILENO;
 use libc::STDOUT_FILENO;
@@ -29,55 +33,92 @@ fn numbers_of(settings: Settings) -> [u64; 6]
     ]
 }
 
-// Stages 3 to 5. Each answer is a number that the last stage made, so that no stage can be left out.
+// Stages 4 to 6, on the words of a judged layer and the numbers of its units. Each answer is a number that the last stage made, so that no stage can
+// be left out.
+fn unit_stages(
+    last: u32,
+    settings: Settings,
+    conflicts: &[u64; 4096],
+    stitches: &[u64; 4096],
+    units: &[u16; 512],
+    all: &[u64; 8],
+    masks: &mut [u8],
+) -> u64
+    requires { ⌜ settingsInRange settings ≡ true ⌝ }
+    requires { ⌜ Words (now conflicts) (now stitches) (now units) (length (now masks)) ⌝ }
+    requires { ⌜ HasPlaces (now all) (now masks) ⌝ }
+{
+    let n = masks.len();
+    let mut near = [0u64; 4096];
+    let mut stitched = [0u64; 4096];
+    units::merge_words(conflicts, units, n, &mut near);
+    units::merge_words(stitches, units, n, &mut stitched);
+    if last == 4 {
+        return near[0];
+    }
+    let mut there = *all;
+    let mut vertices = [0u32; 512];
+    let mut neighbours = [0u32; 512];
+    let removed = reduction::peel(
+        settings.masks,
+        &near,
+        &stitched,
+        &mut there,
+        &mut vertices,
+        &mut neighbours,
+    );
+    if last == 5 {
+        return removed as u64;
+    }
+    let mut numbers = numbers_of(settings);
+    core_search::search_core(
+        conflicts,
+        stitches,
+        &near,
+        &stitched,
+        units,
+        n,
+        &there,
+        &mut numbers,
+        masks,
+    )
+}
+
+// Stages 3 to 6.
 fn first_stages(last: u32, settings: Settings, flat: &[u32; 2560], masks: &mut [u8]) -> u64
     requires { ⌜ Valid settings (piecesOf (now flat) (length (now masks))) ⌝ }
 {
     let n = masks.len();
     let mut conflicts = [0u64; 4096];
     let mut stitches = [0u64; 4096];
-    layout::adjacency_words(settings, flat, n, &mut conflicts, &mut stitches);
+    let mut units = [0u16; 512];
+    let all = units::layer_units(settings, flat, n, &mut conflicts, &mut stitches, &mut units);
     if last == 3 {
         return conflicts[0];
     }
-    let mut there = bitset::below(n);
-    let mut vertices = [0u32; 512];
-    let mut neighbours = [0u32; 512];
-    let removed = reduction::peel(
-        settings.masks,
-        &conflicts,
-        &stitches,
-        &mut there,
-        &mut vertices,
-        &mut neighbours,
-    );
-    if last == 4 {
-        return removed as u64;
-    }
-    let mut numbers = numbers_of(settings);
-    core_search::search_core(&conflicts, &stitches, &there, &mut numbers, masks)
+    unit_stages(last, settings, &conflicts, &stitches, &units, &all, masks)
 }
 
-// Stages 3 to 8, on a list of as many masks as there are pieces.
+// Stages 3 to 9, on a list of as many masks as there are pieces.
 fn run_stages(last: u32, settings: Settings, flat: &[u32; 2560], masks: &mut [u8]) -> u64
     requires { ⌜ Valid settings (piecesOf (now flat) (length (now masks))) ⌝ }
 {
-    if last < 6 {
+    if last < 7 {
         return first_stages(last, settings, flat, masks);
     }
     let result = decomposer::decompose(settings, flat, masks.len(), masks);
-    if last == 6 {
+    if last == 7 {
         return result.steps as u64;
     }
     let mut buffer = [0u8; 4096];
     let length = writer::write_result(&mut buffer, result, masks);
-    if last == 8 {
+    if last == 9 {
         io::write_all(STDOUT_FILENO, &buffer[..length]);
     }
     length as u64
 }
 
-// Stages 2 to 8.
+// Stages 2 to 9.
 fn judged_stages(last: u32, settings: Settings, pieces: [Piece; 512], count: usize) -> u64 {
     if 512 < count {
         return 0;

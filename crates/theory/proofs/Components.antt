@@ -9,9 +9,10 @@ use Prim.Native.Nat.{ℕ, zero, suc, _+_, _≤_}
 use native.Mathlib.Nat.{le-refl}
 use native.Mathlib.Omega.{arith}
 use borrow.Author.Tests.{not-true}
-use lib.ListN.{length, getD}
+use lib.ListN.{length}
 use Rattle.rules.specs.Basics.{keep, occurs}
 use Rattle.rules.specs.Edges.{Graph, joined}
+use Rattle.rules.specs.Units.{lowest}
 use Rattle.rules.specs.Components.{reachFor, componentOf, componentsFor, components}
 use Rattle.rules.proofs.Lists.{_∈_, Same, none-in, occurs-in, occurs-out, in-or-out, keep-cases, in-keep, keep-in, keep-same, keep-keep, keep-no-longer, keep-shorter, Distinct, Rising, distinct-keep, rising-keep}
 use Rattle.rules.proofs.Tests.{by-test, clash}
@@ -253,10 +254,7 @@ components-are g s core c = (partition-component s (components-partition g s cor
 
 -- ---- Their lowest vertices
 
-abbrev pub lowest : List ℕ → ℕ
-lowest c = getD c 0 0
-
-lowest-head : {g : Graph} {v : ℕ} {after c : List ℕ} → Component g (v ∷ after) c → v ∈ c → lowest c ≡ v
+pub lowest-head : {g : Graph} {v : ℕ} {after c : List ℕ} → Component g (v ∷ after) c → v ∈ c → lowest c ≡ v
 lowest-head k m = ap lowest (component-head k m)
 
 lowest-in : {g : Graph} {xs : List ℕ} {cs : List (List ℕ)} {u : ℕ} → Partition g xs cs → u ∈ map lowest cs → u ∈ xs

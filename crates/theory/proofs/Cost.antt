@@ -9,7 +9,7 @@ use native.Mathlib.Omega.{arith}
 use native.Mathlib.Nat.{mul-zero}
 use lib.Dec.{eqb}
 use borrow.Author.Tests.{eqb-true, eqb-false, ltb-false}
-use Rattle.rules.specs.Basics.{keep, without}
+use Rattle.rules.specs.Basics.{sumOf, keep, without}
 use Rattle.rules.specs.Edges.{Graph, inConflict, inStitch, joined}
 use Rattle.rules.specs.Score.{pairCost}
 use Rattle.rules.proofs.Edges.{Undirected}
@@ -17,10 +17,6 @@ use Rattle.rules.proofs.Lists.{_∈_, here, later, split-cases, Distinct, Same,
 use Rattle.rules.proofs.Tests.{by-test, or-false, eqb-sym}
 
 -- ---- Sums over a list
-
-unfoldable pub sumOf : (ℕ → ℕ) → List ℕ → ℕ
-sumOf f [] = 0
-sumOf f (x ∷ xs) = f x + sumOf f xs
 
 pub sum-same : (f h : ℕ → ℕ) (xs : List ℕ) → ((u : ℕ) → u ∈ xs → f u ≡ h u) → sumOf f xs ≡ sumOf h xs
 unfolding sumOf

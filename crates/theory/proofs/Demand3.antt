@@ -1,9 +1,9 @@
--- Demand 3 as a theorem of the rules. The laws of the decomposition hold of the graph of any valid layer, whose edges have no direction and join no piece to
--- itself; the score of masks is their cost among all pieces; and settings that are alike but for the budget have one graph. That a run is the search without
--- a budget as far as its budget goes holds of every layer.
+-- Demand 3 as a theorem of the rules. The laws of the decomposition hold of the graph of any layer's units, whose edges have no direction and join no unit to
+-- itself; the score of masks that keep ties is their cost among all units (`tied-score`); and settings that are alike but for the budget have one graph and
+-- the same units. That a run is the search without a budget as far as its budget goes holds of every layer.
 use mathlib.Core.Bool.{Bool, true, false}
 use mathlib.Core.List.{List}
-use mathlib.Core.Logic.{_↔_, Iff·trans}
+use mathlib.Core.Logic.{_↔_, Iff·trans, inl, inr, ⊎-elim}
 use mathlib.Core.Path.{_≡_, refl, sym, ap, _∙_}
 use Prim.Native.Nat.{ℕ, _≤_, _<_, min}
 use native.Mathlib.Omega.{arith}
@@ -13,18 +13,20 @@ use Rattle.rules.specs.declared.layer.Piece.{Piece}
 use Rattle.rules.specs.declared.answers.Verdict.{Verdict}
 use Rattle.rules.specs.Basics.{upTo, given}
 use Rattle.rules.specs.Settings.{pieceAt}
-use Rattle.rules.specs.Edges.{Graph, conflictEdge, stitchEdge, graphOf}
+use Rattle.rules.specs.Edges.{Graph, conflictEdge, stitchEdge, tied, graphOf}
+use Rattle.rules.specs.Components.{components}
+use Rattle.rules.specs.Units.{partOf, unitOf, mergedGraph, unitNumbers, spread}
 use Rattle.rules.specs.Score.{maskOf, scoreOf}
-use Rattle.rules.specs.Decomposition.{Reached, decompose, reached, Completed, complete, completed, stepsInAll, verdictOf, Run, run}
+use Rattle.rules.specs.Decomposition.{Reached, decompose, decomposeUnits, reached, Completed, completeUnits, completed, stepsInAll, verdictOf, Run, run}
 use Rattle.rules.specs.Questions.{Valid}
 use Rattle.rules.specs.Demands.{Alike, Assignment, assignmentCost, EndsWithin, OneRun, Demand3}
 use Rattle.rules.proofs.Ranges.{settings-facts}
 use Rattle.rules.proofs.Validity.{valid-sound}
-use Rattle.rules.proofs.Edges.{undirected, loopless}
-use Rattle.rules.proofs.Lists.{in-upTo, upTo-distinct}
+use Rattle.rules.proofs.Edges.{Undirected, undirected}
 use Rattle.rules.proofs.Tests.{clash}
-use Rattle.theory.proofs.Cost.{costIn}
-use Rattle.theory.proofs.Score.{score-cost}
+use Rattle.theory.proofs.Cost.{costIn, cost-same}
+use Rattle.theory.proofs.Merging.{number-in, in-number, numbers-distinct, merged-undirected, merged-loopless, spread-length, spread-at, spread-number, spread-one}
+use Rattle.theory.proofs.Units.{KeepsTies, grouping, one-mask-keeps, tied-score}
 use Rattle.theory.proofs.PuttingBack.{Ready}
 use Rattle.theory.proofs.SearchAll.{unstopped, FollowsAll, follows-steps, follows-stopped, follows-ended, follows-same}
 use Rattle.theory.proofs.Decomposition.{decomposed, decompose-cheapest, larger-no-dearer, larger-same, decompose-follows}
@@ -33,13 +35,52 @@ use Rattle.theory.proofs.Decomposition.{decomposed, decompose-cheapest,
 masks-above-0 : (s : Settings) (ps : List Piece) → Valid s ps → 0 < s .masks
 masks-above-0 s ps v = omega (arith, settings-facts s (valid-sound s ps v .settings) .masks .low)
 
--- a layer's pieces are ready for the decomposition
-layer-ready : (s : Settings) (ps : List Piece) → Valid s ps → Ready (graphOf s ps) (replicate (length ps) 0) (upTo (length ps))
-layer-ready s ps valid = record {
-  distinct = upTo-distinct (length ps);
-  placed = λ v m. rw (length-replicate {A = ℕ} (length ps) 0) (in-upTo (length ps) v .0 m);
-  loopless = λ v m. loopless s ps valid v (in-upTo (length ps) v .0 m);
-}
+-- ---- The units of a layer
+
+module _ (s : Settings) (ps : List Piece) where
+  -- the graph of units, and their numbers
+  abbrev g : Graph
+  g = mergedGraph (unitOf s ps) (length ps) (graphOf s ps)
+
+  abbrev us : List ℕ
+  us = unitNumbers (unitOf s ps) (length ps)
+
+  both-ways : Undirected g
+  both-ways = merged-undirected (unitOf s ps) (length ps) (undirected s ps)
+
+  -- they are ready for the decomposition
+  units-ready : Ready g (replicate (length ps) 0) us
+  units-ready = record {
+    distinct = numbers-distinct (unitOf s ps) (length ps);
+    placed = λ v m. rw (length-replicate {A = ℕ} (length ps) 0) (number-in (unitOf s ps) (length ps) m .0);
+    loopless = λ v m. merged-loopless (unitOf s ps) (length ps) (graphOf s ps) v;
+  }
+
+  -- what the units reach, and the pieces' masks of it
+  abbrev onUnits : ℕ → Reached
+  onUnits budget = decompose (s .masks) (s .weight) budget g us (replicate (length ps) 0)
+
+  abbrev spreadMasks : ℕ → List ℕ
+  spreadMasks budget = spread (unitOf s ps) (length ps) (onUnits budget .masks)
+
+  spread-below : 0 < s .masks → (budget i : ℕ) → i < length ps → maskOf (spreadMasks budget) i < s .masks
+  spread-below pos budget i l =
+      rw (spread-at (unitOf s ps) (length ps) (onUnits budget .masks) i l)
+      (decomposed (s .masks) (s .weight) pos both-ways units-ready budget .below (unitOf s ps i) (in-number (unitOf s ps) (length ps) (grouping s ps) l))
+
+  spread-ties : (budget : ℕ) → KeepsTies s ps (maskOf (spreadMasks budget))
+  spread-ties budget = one-mask-keeps s ps _ (spread-one (unitOf s ps) (length ps) (grouping s ps) (onUnits budget .masks))
+
+  -- what masks that keep ties cost, and what those reached cost
+  cost-is : (masks : List ℕ) → KeepsTies s ps (maskOf masks) → assignmentCost s ps masks ≡ costIn (s .weight) g (maskOf masks) us
+  cost-is masks ties = tied-score s ps (s .weight) masks ties
+
+  reached-cost : (budget : ℕ) → assignmentCost s ps (spreadMasks budget) ≡ costIn (s .weight) g (maskOf (onUnits budget .masks)) us
+  reached-cost budget =
+      cost-is (spreadMasks budget) (spread-ties budget)
+      ∙ cost-same (s .weight) g _ _ us (λ u m. spread-number (unitOf s ps) (length ps) (grouping s ps) (onUnits budget .masks) m)
+
+-- ---- Reports
 
 -- the run that reports what was reached
 abbrev report : ℕ → Graph → ℕ → Reached → Run
@@ -64,7 +105,11 @@ open-iff true = (λ _. refl, λ _. refl)
 
 module _ (s : Settings) (ps : List Piece) where
   pub reached-follows : FollowsAll (s .budget) (reached s ps) (completed s ps)
-  reached-follows = decompose-follows (s .masks) (s .weight) (s .budget) (graphOf s ps) (upTo (length ps)) (replicate (length ps) 0)
+  reached-follows =
+      ⊎-elim
+      (λ e. inl (e .0, ap (λ (r : Reached). record { steps = r .steps; stopped = r .stopped; masks = spread (unitOf s ps) (length ps) (r .masks) }) (e .1)))
+      (λ h. inr h)
+      (decompose-follows (s .masks) (s .weight) (s .budget) (g s ps) (us s ps) (replicate (length ps) 0))
 
   -- the steps of a run are those in all, or the budget if that is less
   pub run-steps : run s ps .steps ≡ min (stepsInAll s ps) (s .budget)
@@ -92,7 +137,6 @@ module _ (s : Settings) (ps : List Piece) where
 pub one-run : (s : Settings) (ps : List Piece) → Valid s ps → OneRun s ps (run s ps)
 unfolding run
 one-run s ps valid =
-    let d = decomposed (s .masks) (s .weight) (masks-above-0 s ps valid) (undirected s ps) (layer-ready s ps valid) (s .budget) in
     record {
       masks = refl;
       steps = refl;
@@ -100,8 +144,9 @@ one-run s ps valid =
       stitches = refl;
       cost = refl;
       whole = record {
-        size = d .size ∙ length-replicate {A = ℕ} (length ps) 0;
-        below = λ i h. d .below i (in-upTo (length ps) i .1 h);
+        size = spread-length (unitOf s ps) (length ps) _;
+        below = spread-below s ps (masks-above-0 s ps valid) (s .budget);
+        ties = spread-ties s ps (s .budget);
       };
       best = run-best s ps;
       spent = run-steps s ps;
@@ -130,13 +175,21 @@ module _ {s₁ s₂ : Settings} (alike : Alike s₁ s₂) (ps : List Piece) wher
     stitches = λ u v. given (stitch-same (pieceAt ps u) (pieceAt ps v) i) 1;
   }
 
-  -- what the second settings reach, on the first settings' graph
-  second : reached s₂ ps ≡ decompose (s₁ .masks) (s₁ .weight) (s₂ .budget) (graphOf s₁ ps) (upTo (length ps)) (replicate (length ps) 0)
-  second = λ i. decompose (alike-masks i) (alike-weight i) (s₂ .budget) (graph-same i) (upTo (length ps)) (replicate (length ps) 0)
+  tied-same : (p q : Piece) → tied s₂ p q ≡ tied s₁ p q
+  unfolding tied
+  tied-same p q = rw (alike .margin)
+
+  -- and the same units
+  unit-same : unitOf s₂ ps ≡ unitOf s₁ ps
+  unit-same = λ i. partOf (components (record { conflicts = λ u v. 0; stitches = λ u v. given (tied-same (pieceAt ps u) (pieceAt ps v) i) 1 }) (upTo (length ps)))
+
+  -- what the second settings reach, on the first settings' graph and units
+  second : reached s₂ ps ≡ decomposeUnits (s₁ .masks) (s₁ .weight) (s₂ .budget) (graphOf s₁ ps) (unitOf s₁ ps) (length ps)
+  second = λ i. decomposeUnits (alike-masks i) (alike-weight i) (s₂ .budget) (graph-same i) (unit-same i) (length ps)
 
   -- the search without a budget is the same, and takes the same steps
   pub completed-same : completed s₂ ps ≡ completed s₁ ps
-  completed-same = λ i. complete (alike-masks i) (alike-weight i) (graph-same i) (upTo (length ps)) (replicate (length ps) 0)
+  completed-same = λ i. completeUnits (alike-masks i) (alike-weight i) (graph-same i) (unit-same i) (length ps)
 
   pub steps-same : stepsInAll s₂ ps ≡ stepsInAll s₁ ps
   steps-same = ap (λ (c : Completed). c .steps) completed-same
@@ -145,35 +198,29 @@ module _ {s₁ s₂ : Settings} (alike : Alike s₁ s₂) (ps : List Piece) wher
     pos : 0 < s₁ .masks
     pos = masks-above-0 s₁ ps valid₁
 
-    ready : Ready (graphOf s₁ ps) (replicate (length ps) 0) (upTo (length ps))
-    ready = layer-ready s₁ ps valid₁
-
-    -- what an assignment costs is its cost among all pieces
-    cost-is : (masks : List ℕ) → assignmentCost s₁ ps masks ≡ costIn (s₁ .weight) (graphOf s₁ ps) (maskOf masks) (upTo (length ps))
-    cost-is masks = score-cost (s₁ .weight) (undirected s₁ ps) masks (length ps)
-
     -- the search that ended within the first budget does the same within the second
     same : run s₁ ps .verdict ≡ Verdict.Best → run s₂ ps ≡ run s₁ ps
     unfolding run
     same e =
         let ended = best-iff (reached s₁ ps .stopped) .0 e in
-        let equal = second ∙ larger-same (s₁ .masks) (s₁ .weight) pos (undirected s₁ ps) ready (alike .budget) ended in
+        let longer = larger-same (s₁ .masks) (s₁ .weight) pos (both-ways s₁ ps) (units-ready s₁ ps) (alike .budget) ended in
+        let equal = second ∙ ap (λ (r : Reached). record { steps = r .steps; stopped = r .stopped; masks = spread (unitOf s₁ ps) (length ps) (r .masks) }) longer in
         λ i. report (alike-weight i) (graph-same i) (length ps) (equal i)
 
     cheapest : run s₁ ps .verdict ≡ Verdict.Best → (rival : List ℕ) → Assignment s₁ ps rival → run s₁ ps .cost ≤ assignmentCost s₁ ps rival
     unfolding run
     cheapest e rival a =
         let ended = best-iff (reached s₁ ps .stopped) .0 e in
-        let least = decompose-cheapest (s₁ .masks) (s₁ .weight) pos (undirected s₁ ps) ready (s₁ .budget) ended (maskOf rival) (λ u m. a .below u (in-upTo (length ps) u .0 m)) in
-        omega (arith, cost-is (reached s₁ ps .masks), cost-is rival)
+        let least = decompose-cheapest (s₁ .masks) (s₁ .weight) pos (both-ways s₁ ps) (units-ready s₁ ps) (s₁ .budget) ended (maskOf rival)
+        (λ u m. a .below u (number-in (unitOf s₁ ps) (length ps) m .0)) in
+        omega (arith, reached-cost s₁ ps (s₁ .budget), cost-is s₁ ps rival (a .ties))
 
     no-dearer : run s₂ ps .cost ≤ run s₁ ps .cost
     unfolding run
     no-dearer =
-        let more = decompose (s₁ .masks) (s₁ .weight) (s₂ .budget) (graphOf s₁ ps) (upTo (length ps)) (replicate (length ps) 0) in
-        let moved : run s₂ ps .cost ≡ assignmentCost s₁ ps (more .masks) = λ i. scoreOf (alike-weight i) (graph-same i) (second i .masks) (length ps) .cost in
-        let less = larger-no-dearer (s₁ .masks) (s₁ .weight) pos (undirected s₁ ps) ready (alike .budget) in
-        omega (arith, cost-is (more .masks), cost-is (reached s₁ ps .masks))
+        let moved : run s₂ ps .cost ≡ assignmentCost s₁ ps (spreadMasks s₁ ps (s₂ .budget)) = λ i. scoreOf (alike-weight i) (graph-same i) (second i .masks) (length ps) .cost in
+        let less = larger-no-dearer (s₁ .masks) (s₁ .weight) pos (both-ways s₁ ps) (units-ready s₁ ps) (alike .budget) in
+        omega (arith, reached-cost s₁ ps (s₁ .budget), reached-cost s₁ ps (s₂ .budget))
 
     pub demand3 : Demand3 s₁ s₂ ps (run s₁ ps) (run s₂ ps)
     demand3 = record {

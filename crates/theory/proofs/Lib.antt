@@ -16,5 +16,10 @@ pub mod Decomposition
 pub mod Neighbours
 pub mod EdgeLists
 pub mod SameEdges
+pub mod Parts
+pub mod Merging
+pub mod Units
 pub mod Demand3
+pub mod Assignments
+pub mod Untied
 pub mod Results

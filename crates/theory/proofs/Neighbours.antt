@@ -32,7 +32,7 @@ same-among f s = record {
 
 -- ---- Tests that agree on a list's members
 
-count-same : (f h : ℕ → Bool) (xs : List ℕ) → ((u : ℕ) → u ∈ xs → f u ≡ h u) → countOf f xs ≡ countOf h xs
+pub count-same : (f h : ℕ → Bool) (xs : List ℕ) → ((u : ℕ) → u ∈ xs → f u ≡ h u) → countOf f xs ≡ countOf h xs
 count-same f h xs e = sym (length-keep f xs) ∙ ap length (keep-same f h xs e) ∙ length-keep h xs
 
 -- ---- Peeling
@@ -70,18 +70,22 @@ module _ (K : ℕ) {g h : Graph} where
 
 -- ---- Components
 
-module _ {g h : Graph} where
-  joined-same : {vs : List ℕ} → SameNeighbours g h vs → (u v : ℕ) → u ∈ vs → v ∈ vs → joined g u v ≡ joined h u v
-  joined-same s u v m n = rw (s .conflict u v m n, s .stitch u v m n)
+-- g and h join the same vertices among vs, by edges of whatever kind
+pub record SameJoined (g h : Graph) (vs : List ℕ) : Type 0 where
+  pub edge : (u v : ℕ) → u ∈ vs → v ∈ vs → joined g u v ≡ joined h u v
 
-  reach-same : {vs : List ℕ} → SameNeighbours g h vs → (rounds : ℕ) (inside outside : List ℕ) → ((u : ℕ) → u ∈ inside → u ∈ vs) → ((u : ℕ) → u ∈ outside → u ∈ vs)
+pub joined-same : {g h : Graph} {vs : List ℕ} → SameNeighbours g h vs → SameJoined g h vs
+joined-same s = record { edge = λ u v m n. rw (s .conflict u v m n, s .stitch u v m n) }
+
+module _ {g h : Graph} where
+  reach-same : {vs : List ℕ} → SameJoined g h vs → (rounds : ℕ) (inside outside : List ℕ) → ((u : ℕ) → u ∈ inside → u ∈ vs) → ((u : ℕ) → u ∈ outside → u ∈ vs)
       → reachFor rounds g inside outside ≡ reachFor rounds h inside outside
   unfolding reachFor
   reach-same s zero inside outside a b = refl
   reach-same s (suc rounds) inside outside a b =
       let f : ℕ → Bool = λ v. anyOf (joined g v) inside in
       let k : ℕ → Bool = λ v. anyOf (joined h v) inside in
-      let e : find f outside ≡ find k outside = find-same f k outside (λ v m. any-same (joined g v) (joined h v) inside (λ u n. joined-same s v u (b v m) (a u n))) in
+      let e : find f outside ≡ find k outside = find-same f k outside (λ v m. any-same (joined g v) (joined h v) inside (λ u n. s .edge v u (b v m) (a u n))) in
       by-found (find k outside)
       (λ q. rw (e, q, reachFor))
       (λ v q.
@@ -89,22 +93,22 @@ module _ {g h : Graph} where
       rw (e, q, reachFor)
       (reach-same s rounds (v ∷ inside) (without v outside) (λ u m. ⊎-elim (λ d. equal-in d (b v i)) (a u) (here-or-later m)) (λ u m. b u (without-in v outside m .0))))
 
-  pub component-of-same : (v : ℕ) (after : List ℕ) → SameNeighbours g h (v ∷ after) → componentOf g v after ≡ componentOf h v after
+  pub component-of-same : (v : ℕ) (after : List ℕ) → SameJoined g h (v ∷ after) → componentOf g v after ≡ componentOf h v after
   component-of-same v after s =
       ap (λ (inside : List ℕ). keep (λ u. occurs u inside) (v ∷ after))
       (reach-same s (length after) (v ∷ []) after (λ u m. ⊎-elim (λ d. here d) (λ n. none-in n) (here-or-later m)) (λ u m. later m))
 
-  components-for-same : (rounds : ℕ) (xs : List ℕ) → SameNeighbours g h xs → componentsFor rounds g xs ≡ componentsFor rounds h xs
+  components-for-same : (rounds : ℕ) (xs : List ℕ) → SameJoined g h xs → componentsFor rounds g xs ≡ componentsFor rounds h xs
   unfolding componentsFor
   components-for-same zero xs s = refl
   components-for-same (suc rounds) [] s = refl
   components-for-same (suc rounds) (v ∷ after) s =
       let d = componentOf h v after in
+      let stay : (u : ℕ) → u ∈ keep (λ u. not (occurs u d)) after → u ∈ v ∷ after = λ u m. later (keep-in (λ u. not (occurs u d)) after m .0) in
       ap (λ (c : List ℕ). c ∷ componentsFor rounds g (keep (λ u. not (occurs u c)) after)) (component-of-same v after s)
-      ∙ ap (λ (cs : List (List ℕ)). d ∷ cs)
-      (components-for-same rounds (keep (λ u. not (occurs u d)) after) (same-among (λ u m. later (keep-in (λ u. not (occurs u d)) after m .0)) s))
+      ∙ ap (λ (cs : List (List ℕ)). d ∷ cs) (components-for-same rounds (keep (λ u. not (occurs u d)) after) (record { edge = λ u w m n. s .edge u w (stay u m) (stay w n) }))
 
-  pub components-same : (xs : List ℕ) → SameNeighbours g h xs → components g xs ≡ components h xs
+  pub components-same : (xs : List ℕ) → SameJoined g h xs → components g xs ≡ components h xs
   components-same xs s = components-for-same (length xs) xs s
 
 -- ---- Putting back
@@ -153,7 +157,7 @@ decompose-stages K W budget {g} {h} vs masks s =
     let inner = same-among (p .core-in) s in
     let found = searchAll K W budget g (components h (peeled .core)) (record { steps = 0; stopped = false; masks = masks }) in
     ap (λ (q : Peeled). rest g (components g (q .core)) q) (peel-same K (length vs) vs s)
-    ∙ ap (λ (cs : List (List ℕ)). rest g cs peeled) (components-same (peeled .core) inner)
+    ∙ ap (λ (cs : List (List ℕ)). rest g cs peeled) (components-same (peeled .core) (joined-same inner))
     ∙ ap (λ (placed : Placed). done found placed) (put-all-same K s (peeled .removed) (record { there = peeled .core; masks = found .masks }) (p .gone-in) (p .core-in))
   where
     done : Reached → Placed → Reached

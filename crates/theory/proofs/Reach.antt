@@ -33,7 +33,7 @@ pub data Linked (g : Graph) (xs : List ℕ) : ℕ → ℕ → Type 0 where
   stay : {u : ℕ} → u ∈ xs → Linked g xs u u
   step : {u v w : ℕ} → u ∈ xs → joined g u v ≡ true → Linked g xs v w → Linked g xs u w
 
-linked-start : {g : Graph} {xs : List ℕ} {u w : ℕ} → Linked g xs u w → u ∈ xs
+pub linked-start : {g : Graph} {xs : List ℕ} {u w : ℕ} → Linked g xs u w → u ∈ xs
 linked-start (stay h) = h
 linked-start (step h e l) = h
 

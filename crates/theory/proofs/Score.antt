@@ -9,7 +9,7 @@ use Prim.Native.Nat.{ℕ, zero, suc, _+_, _*_, _<_}
 use native.Mathlib.Omega.{arith}
 use lib.ListN.{length, getD, set, length-set, length-map, List·getD-append}
 use lib.Seq.{getD-set-same, getD-set-other, getD-append-seam}
-use Rattle.rules.specs.Basics.{given, sumTo, sumPairs, upFrom, upTo}
+use Rattle.rules.specs.Basics.{given, sumTo, sumOf, sumPairs, upFrom, upTo}
 use Rattle.rules.specs.Edges.{Graph}
 use Rattle.rules.specs.Score.{maskOf, sameMask, conflictsOf, stitchesOf, scoreOf, pairCost}
 use Rattle.rules.specs.Search.{localGraph, added, totalAfter, total}
@@ -17,7 +17,7 @@ use Rattle.rules.specs.Decomposition.{putMasks}
 use Rattle.rules.proofs.Edges.{Undirected}
 use Rattle.rules.proofs.Lists.{_∈_, here, later, set-each, Distinct, length-upTo, getD-upTo, upTo-snoc}
 use Rattle.rules.proofs.Tests.{by-test}
-use Rattle.theory.proofs.Cost.{sumOf, edgeCost, crossCost, costIn, cost-snoc}
+use Rattle.theory.proofs.Cost.{edgeCost, crossCost, costIn, cost-snoc}
 use Rattle.theory.proofs.Each.{Each, getD-map}
 
 -- ---- Sums by number

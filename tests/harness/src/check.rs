@@ -38,20 +38,24 @@ impl Checker {
     ) -> Result<(), Finding> {
         let case = self.case(input, size);
         match self.compared(family, &case) {
-            Ok(_) => Ok(()),
-            Err(_) => Err(self.smallest(&case)),
+            Ok(Ok(_)) => self.decomposed(&case.input),
+            Ok(Err(_)) => {}
+            Err(_) => return Err(self.smallest(&case)),
         }
+        Ok(())
     }
 
-    /// Compares one call on a layer, and hands over the result text unless the layer is refused.
-    pub fn layer(
-        &mut self,
-        family: Family,
-        layer: &Layer,
-        size: usize,
-    ) -> Result<Option<Vec<u8>>, Finding> {
+    /// Counts what ties do in input that was not refused.
+    fn decomposed(&mut self, input: &Input<Vec<u8>>) {
+        let layer = input.as_bytes().layer();
+        self.tally
+            .count_layer(&layer.expect("the reference decomposed it"));
+    }
+
+    /// Compares one call on a small layer, and hands over the result text unless it is refused.
+    fn small(&mut self, layer: &Layer, size: usize) -> Result<Option<Vec<u8>>, Finding> {
         let case = self.case(Input::Layer(layer.text()), size);
-        match self.compared(family, &case) {
+        match self.compared(Family::Small, &case) {
             Ok(answer) => Ok(answer.ok()),
             Err(_) => Err(self.smallest(&case)),
         }
@@ -63,7 +67,7 @@ impl Checker {
         let mut before: Option<Vec<u8>> = None;
         for &budget in budgets {
             let layer = layer.with_budget(budget);
-            let text = match self.layer(Family::Small, &layer, size)? {
+            let text = match self.small(&layer, size)? {
                 Some(text) => text,
                 None => return Ok(()),
             };
@@ -73,6 +77,7 @@ impl Checker {
             }
             before = Some(text);
         }
+        self.tally.count_layer(layer);
         match before {
             Some(text) if is_best(&text) => self.least(layer, cost(&text)),
             _ => Ok(()),

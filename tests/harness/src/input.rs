@@ -1,6 +1,7 @@
 //! What a call is given besides the buffer for its result: bytes, or memory that holds them.
 
-use crate::reference::{self, Answer, Mutation};
+use crate::layer::Layer;
+use crate::reference::{self, Answer, Mutation, Refusal};
 use crate::stream::split;
 
 #[derive(Clone)]
@@ -30,6 +31,16 @@ impl Input<&[u8]> {
             Input::Layer(text) => reference::answer(text, result_size, wrong),
             Input::Stream { settings, stream } => {
                 reference::answer_stream(settings, stream, result_size, wrong)
+            }
+        }
+    }
+
+    /// The layer that it states.
+    pub fn layer(&self) -> Result<Layer, Refusal> {
+        match self {
+            Input::Layer(text) => reference::read(text, Mutation::None),
+            Input::Stream { settings, stream } => {
+                reference::read_stream(settings, stream, Mutation::None)
             }
         }
     }

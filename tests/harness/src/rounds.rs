@@ -118,5 +118,5 @@ fn at_some_budget(
 ) -> Result<(), Finding> {
     let layer = layer.with_budget(random.of_any_size(greatest));
     let size = large_enough(random);
-    checker.layer(family, &layer, size).map(|_| ())
+    checker.input(family, Input::Layer(layer.text()), size)
 }

@@ -1,7 +1,8 @@
 //! Counts of what was compared, so that a reader sees what a run covered.
 
 use crate::compare::field;
-use crate::reference::Answer;
+use crate::layer::Layer;
+use crate::reference::{kinds, Answer, KINDS};
 
 /// Where an input comes from.
 #[derive(Clone, Copy)]
@@ -37,6 +38,9 @@ impl Family {
 const OF_TEXTS: [usize; 6] = [1, 2, 3, 4, 5, 6];
 const OF_STREAMS: [usize; 8] = [1, 2, 3, 4, 6, 9, 10, 11];
 
+/// A unit can have all the pieces that a layer can have.
+const MOST_PIECES: usize = 512;
+
 #[derive(Default)]
 pub struct Tally {
     families: [u64; FAMILIES.len()],
@@ -52,6 +56,11 @@ pub struct Tally {
     refused: [[u64; 12]; 2],
     /// Layers whose cost was compared with that of all assignments.
     pub least: u64,
+    /// Layers that were decomposed, and those that had each kind of tie or edge.
+    layers: u64,
+    kinds: [u64; KINDS.len()],
+    /// The pieces of the largest unit.
+    largest: usize,
 }
 
 impl Tally {
@@ -85,7 +94,17 @@ impl Tally {
         self.stitched += u64::from(field(text, "stitches=") != Some(0));
     }
 
-    /// Whether every answer that a call can give was seen.
+    /// Counts what ties do in a layer that was decomposed.
+    pub fn count_layer(&mut self, layer: &Layer) {
+        let found = kinds(layer);
+        self.layers += 1;
+        for (count, there) in self.kinds.iter_mut().zip(found.there) {
+            *count += u64::from(there);
+        }
+        self.largest = self.largest.max(found.largest);
+    }
+
+    /// Whether every answer that a call can give was seen, and all that ties can do.
     pub fn is_complete(&self) -> bool {
         let counts = [
             self.best,
@@ -97,19 +116,17 @@ impl Tally {
         ];
         let texts = OF_TEXTS.map(|number| self.refused[0][number]);
         let streams = OF_STREAMS.map(|number| self.refused[1][number]);
-        let mut all = (counts.iter().chain(&self.families)).chain(texts.iter().chain(&streams));
-        all.all(|&count| count > 0)
+        let mut all = (counts.iter().chain(&self.families).chain(&self.kinds))
+            .chain(texts.iter().chain(&streams));
+        all.all(|&count| count > 0) && self.largest == MOST_PIECES
     }
 
     /// One line.
     pub fn summary(&self) -> String {
-        let families: Vec<String> = (FAMILIES.iter().zip(self.families))
-            .map(|(name, count)| format!("{name} {count}"))
-            .collect();
         format!(
-            "{} answers agree ({}); best {}, open {}, with steps {}, with stitches {}; texts refused {}; streams decomposed {}, refused {}; least cost of {} layers",
+            "{} answers agree ({}); best {}, open {}, with steps {}, with stitches {}; texts refused {}; streams decomposed {}, refused {}; least cost of {} layers; of {} layers with {}; largest unit {}",
             self.cases(),
-            families.join(", "),
+            named(&FAMILIES, &self.families),
             self.best,
             self.open,
             self.searched,
@@ -117,9 +134,20 @@ impl Tally {
             counts(&OF_TEXTS, &self.refused[0]),
             self.streams,
             counts(&OF_STREAMS, &self.refused[1]),
-            self.least
+            self.least,
+            self.layers,
+            named(&KINDS, &self.kinds),
+            self.largest
         )
     }
+}
+
+fn named(names: &[&str], counts: &[u64]) -> String {
+    let pairs = names.iter().zip(counts);
+    let words: Vec<String> = pairs
+        .map(|(name, count)| format!("{name} {count}"))
+        .collect();
+    words.join(", ")
 }
 
 fn counts(numbers: &[usize], refused: &[u64]) -> String {

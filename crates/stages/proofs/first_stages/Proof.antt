@@ -2,14 +2,12 @@
 use borrow.Author.Needs.{needs}
 use mathlib.Core.Path.{refl}
 use Rattle.layout.proofs.PieceLaws.{valid-flat}
-use Rattle.decomposer.proofs.LayerWords.{conflicts-both-ways, stitches-both-ways, one-kind-each}
-use Rattle.decomposer.proofs.StageLaws.{core-places}
-use Rattle.decomposer.proofs.CoreSearch.{core-given}
+use Rattle.decomposer.proofs.RunLaws.{layer-words, unit-places}
 use Rattle.stages.proofs.first_stages.Statement.{statement}
 use Rattle.stages.proofs.first_stages.Tie as tie
 
-adjacency-words-requires : tie.Need-adjacency-words-requires
-adjacency-words-requires c κs = search needs
+layer-units-requires : tie.Need-layer-units-requires
+layer-units-requires c κs = (c .before .before .before .before .pre, refl)
 
 array-read-result : tie.Need-array-read-result
 array-read-result c = search needs
@@ -17,49 +15,19 @@ array-read-result c = search needs
 returns : tie.Need-returns
 returns c = search needs
 
-below-requires : tie.Need-below-requires
-below-requires c κs = valid-flat _ _ _ (c .before .before .before .before .before .pre) .count
-
-peel-requires : tie.Need-peel-requires
-peel-requires c κs = search needs
-
-returns-2 : tie.Need-returns-2
-returns-2 c = search needs
-
-numbers-of-requires : tie.Need-numbers-of-requires
-numbers-of-requires c κs = search needs
-
-search-core-requires : tie.Need-search-core-requires
-search-core-requires c κs =
-    let numbered : tie.After-numbers-of = c .before .before .before .before .before in
-    let taken : tie.After-peel = numbered .before .before in
-    let listed : tie.After-below = taken .before .before .before .before .before .before in
-    let built : tie.After-adjacency-words = listed .before .before in
-    let begun : tie.Start = built .before .before .before .before in
-    let valid = begun .pre in
-    let adjacency = built .adjacency-words .ensures in
-    let placed = core-places _ _ _ valid adjacency (listed .below .ensures) (taken .peel .ensures) (begun .args .masks .now) refl in (
-      core-given _ (valid-flat _ _ _ valid .settings) (numbered .numbers-of .ensures) (one-kind-each adjacency) placed,
-      (conflicts-both-ways adjacency, stitches-both-ways adjacency),
-    )
+unit-stages-requires : tie.Need-unit-stages-requires
+unit-stages-requires c κs =
+    let built = c .before .before .before .before .before .before in
+    let start = built .before .before .before .before .before in
+    let adjacency = built .layer-units .ensures .0 in
+    let numbered = built .layer-units .ensures .1 in
+    (valid-flat _ _ _ (start .pre) .settings, (layer-words _ _ _ (start .pre) adjacency numbered, unit-places _ _ _ (start .pre) adjacency numbered (start .args .masks .now) refl))
 
 same-length : tie.Need-same-length
 same-length c = search needs
 
-returns-3 : tie.Need-returns-3
-returns-3 c = search needs
+returns-2 : tie.Need-returns-2
+returns-2 c = search needs
 
 pub first-stages-spec : {M : Type 1} → statement M
-first-stages-spec =
-    tie.close
-    (tie.spec
-    adjacency-words-requires
-    array-read-result
-    returns
-    below-requires
-    peel-requires
-    returns-2
-    numbers-of-requires
-    search-core-requires
-    same-length
-    returns-3)
+first-stages-spec = tie.close (tie.spec layer-units-requires array-read-result returns unit-stages-requires same-length returns-2)

@@ -28,6 +28,8 @@ struct Style {
     side: u64,
     /// How many of ten new pieces belong to the shape of the piece that they grow out of.
     touching: u64,
+    /// How many of eight of these touch along too little for a stitch.
+    ties: u64,
     /// After so many pieces a new island is begun, so that there are several components.
     island: usize,
 }
@@ -64,6 +66,7 @@ fn style(random: &mut Random, count: usize) -> Style {
         settings,
         side,
         touching: random.below(8),
+        ties: random.pick(&[0, 0, 2, 5]),
         island: random.pick(&islands),
     }
 }
@@ -108,14 +111,7 @@ fn next_to(random: &mut Random, style: &Style, rects: &[Rect], grown: usize) -> 
 
 /// A piece of the same shape that shares a stretch of one side, or only a corner.
 fn touching(random: &mut Random, style: &Style, near: Rect) -> Rect {
-    let margin = style.settings.margin as i64;
-    let contact = match random.below(8) {
-        0 => 0,
-        1 => margin - 1,
-        2 | 3 => margin,
-        4 => margin + 1,
-        _ => margin + random.below(style.side) as i64,
-    };
+    let contact = contact(random, style);
     let side = |random: &mut Random| length(random, style);
     let across = beyond(random, near.x, 0, side);
     let along = beyond(random, near.y, -contact, |r| contact.max(1) + side(r) - 1);
@@ -125,6 +121,21 @@ fn touching(random: &mut Random, style: &Style, near: Rect) -> Rect {
         y: along,
     };
     turned(random, near, piece)
+}
+
+/// Below the margin, around it, above it, or a corner only.
+fn contact(random: &mut Random, style: &Style) -> i64 {
+    let margin = style.settings.margin as i64;
+    if margin > 1 && random.below(8) < style.ties {
+        return random.between(1, style.settings.margin - 1) as i64;
+    }
+    match random.below(8) {
+        0 => 0,
+        1 => margin - 1,
+        2 | 3 => margin,
+        4 => margin + 1,
+        _ => margin + random.below(style.side) as i64,
+    }
 }
 
 /// A piece of another shape at a chosen gap.

@@ -23,7 +23,7 @@ pub fn crossings(random: &mut Random, count: usize) -> Layer {
     let width = settings.margin + random.pick(&[0, 0, 0, 1, settings.margin]);
     let length = width + random.between(1, 8 * settings.spacing);
     let style = Style {
-        width: width - u64::from(width > 1 && random.once_in(8)),
+        width: width - u64::from(width > 1 && random.once_in(4)),
         length,
         square: length * random.pick(&[1, 2, 1 + count as u64 / 20]),
     };

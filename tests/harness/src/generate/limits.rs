@@ -1,5 +1,5 @@
-//! Texts at the ends of every range, one number at a time, and layers with the most edges. There
-//! is nothing random in them.
+//! Texts at the ends of every range, one number at a time, and layers with the most edges and ties.
+//! There is nothing random in them.
 
 use crate::layer::{Layer, Piece, Settings};
 
@@ -38,6 +38,7 @@ pub fn at_limits() -> Vec<Vec<u8>> {
     for (masks, budget) in [(2, 0), (2, 2_000), (8, 0), (8, 2_000)] {
         texts.push(largest(heap(), masks, budget).text());
         texts.push(largest(sheet(), masks, budget).text());
+        texts.extend(most_tied().map(|pieces| tied(pieces, masks, budget).text()));
     }
     texts
 }
@@ -102,6 +103,50 @@ fn sheet() -> Vec<Piece> {
         y2: number / 32 + 1,
     };
     (0..512).map(cell).collect()
+}
+
+/// As many ties as there can be, the longest chains of them, numbered from either end and without order,
+/// and units with as many edges between them as there can be.
+fn most_tied() -> [Vec<Piece>; 6] {
+    [
+        sheet(),
+        chain(|number| number),
+        chain(|number| 511 - number),
+        chain(|number| 205 * number % 512),
+        chains(2),
+        chains(3),
+    ]
+}
+
+/// A piece of a chain in which each is tied to the next: a square of 2 nm that touches the one before
+/// along 1 nm.
+fn link(shape: u64, position: u64) -> Piece {
+    Piece {
+        shape,
+        x1: 2 * position,
+        y1: position % 2,
+        x2: 2 * position + 2,
+        y2: position % 2 + 2,
+    }
+}
+
+/// A chain of 512 pieces, with the position of each number.
+fn chain(position: impl Fn(u64) -> u64) -> Vec<Piece> {
+    (0..512).map(|number| link(0, position(number))).collect()
+}
+
+/// Chains in one place, numbered in turn.
+fn chains(shapes: u64) -> Vec<Piece> {
+    (0..512)
+        .map(|number| link(number % shapes, number / shapes))
+        .collect()
+}
+
+/// A contact of 1 nm ties.
+fn tied(pieces: Vec<Piece>, masks: u64, budget: u64) -> Layer {
+    let mut layer = largest(pieces, masks, budget);
+    layer.settings.margin = 2;
+    layer
 }
 
 fn largest(pieces: Vec<Piece>, masks: u64, budget: u64) -> Layer {

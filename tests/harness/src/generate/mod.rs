@@ -6,6 +6,7 @@ mod damage;
 mod limits;
 mod lively;
 mod made;
+mod patches;
 mod streams;
 mod tiles;
 mod wires;
@@ -18,12 +19,13 @@ pub use lively::lively;
 pub use made::made;
 pub use streams::{damaged_stream, streams_at_limits, whole_stream};
 
-/// A layer of at most `count` pieces, of one of four kinds, with a budget of 0.
+/// A layer of at most `count` pieces, of one of five kinds, with a budget of 0.
 pub fn any_layer(random: &mut Random, count: usize) -> Layer {
-    match random.below(4) {
+    match random.below(5) {
         0 => wires::wires(random, count),
         1 => cluster::cluster(random, count),
         2 => tiles::tiles(random, count),
+        3 => patches::patches(random, count),
         _ => crossings::crossings(random, count),
     }
 }

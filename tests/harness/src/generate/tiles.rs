@@ -1,5 +1,6 @@
 //! Cells of an uneven grid, some of them empty, the others of few shapes. Neighbours of one shape
-//! touch along a length near the margin, others are as near as an empty cell lets them be.
+//! touch along a length near the margin, or mostly below it, which ties whole regions; others are as
+//! near as an empty cell lets them be.
 
 use super::{first_of, settings};
 use crate::layer::{Layer, Piece, Settings};
@@ -8,7 +9,10 @@ use crate::random::Random;
 /// A layer of at most `count` pieces.
 pub fn tiles(random: &mut Random, count: usize) -> Layer {
     let mut settings = settings(random);
-    settings.margin = settings.margin.min(settings.spacing);
+    settings.margin = match random.below(4) {
+        0 => settings.spacing,
+        _ => settings.margin.min(settings.spacing),
+    };
     let columns = random.between(1, 2 + side(count));
     let rows = 1 + 5 * count as u64 / (4 * columns);
     let xs = lines(random, &settings, columns);

@@ -1,4 +1,4 @@
-//! Rows of wires, each cut into pieces that touch along a length near the margin.
+//! Rows of wires, each cut into pieces that touch along a length near the margin, or tied into chains.
 
 use super::{first_of, settings, shuffled_or_not};
 use crate::layer::{Layer, Piece};
@@ -17,6 +17,8 @@ struct Style {
     length: u64,
     /// The greatest number of pieces of a wire.
     cuts: u64,
+    /// How many of twelve contacts are too short for a stitch.
+    ties: u64,
 }
 
 /// A layer of at most `count` pieces, as far as the coordinates reach.
@@ -30,7 +32,8 @@ pub fn wires(random: &mut Random, count: usize) -> Layer {
         row_gap: gap(random, settings.spacing),
         end_gap: gap(random, settings.spacing),
         length: random.between(1, 4 * settings.spacing),
-        cuts: random.between(1, 6),
+        cuts: cuts(random, count),
+        ties: random.pick(&[0, 0, 0, 2, 6, 11, 12]),
     };
     let mut ends = vec![0; random.between(1, 2 + count as u64 / 8) as usize];
     let mut pieces = Vec::new();
@@ -44,6 +47,15 @@ pub fn wires(random: &mut Random, count: usize) -> Layer {
         shape += 1;
     }
     shuffled_or_not(random, first_of(count, settings, pieces))
+}
+
+/// Mostly few, now and then up to all that the layer has.
+fn cuts(random: &mut Random, count: usize) -> u64 {
+    if random.once_in(6) {
+        random.between(1, count as u64 + 1)
+    } else {
+        random.between(1, 6)
+    }
 }
 
 /// Dense, just below the spacing, at it, or sparse. Rows just below the spacing make neighbours of
@@ -83,8 +95,11 @@ fn wire(random: &mut Random, style: &Style, shape: u64, at: (u64, u64)) -> Vec<P
     pieces
 }
 
-/// Around the margin, the whole height, or a corner only.
+/// Below the margin, around it, the whole height, or a corner only.
 fn contact(random: &mut Random, style: &Style) -> u64 {
+    if style.margin > 1 && random.below(12) < style.ties {
+        return random.between(1, style.margin - 1);
+    }
     match random.below(12) {
         0 => 0,
         1 => style.margin - 1,

@@ -1,35 +1,34 @@
-//! Edges between pieces (RULES 2).
+//! Edges and ties between pieces (RULES 2).
 
 use super::mutation::Mutation;
 use crate::layer::{Layer, Piece};
 
-/// For each piece its neighbours, in rising order.
-pub struct Graph {
-    pub conflicts: Vec<Vec<usize>>,
-    pub stitches: Vec<Vec<usize>>,
+/// Pairs of pieces, each once, with the lower piece first.
+#[derive(Default)]
+pub struct Edges {
+    pub conflicts: Vec<(usize, usize)>,
+    pub stitches: Vec<(usize, usize)>,
+    pub ties: Vec<(usize, usize)>,
 }
 
-impl Graph {
-    pub fn of(layer: &Layer, wrong: Mutation) -> Graph {
-        let mut graph = Graph {
-            conflicts: vec![Vec::new(); layer.pieces.len()],
-            stitches: vec![Vec::new(); layer.pieces.len()],
-        };
-        for (i, a) in layer.pieces.iter().enumerate() {
-            for (j, b) in layer.pieces.iter().enumerate() {
-                if i != j && is_conflict(a, b, layer.settings.spacing, wrong) {
-                    graph.conflicts[i].push(j);
+impl Edges {
+    pub fn of(layer: &Layer, wrong: Mutation) -> Edges {
+        let (spacing, margin) = (layer.settings.spacing, layer.settings.margin);
+        let mut edges = Edges::default();
+        for (j, b) in layer.pieces.iter().enumerate() {
+            for (i, a) in layer.pieces[..j].iter().enumerate() {
+                if is_conflict(a, b, spacing, wrong) {
+                    edges.conflicts.push((i, j));
                 }
-                if i != j && is_stitch(a, b, layer.settings.margin, wrong) {
-                    graph.stitches[i].push(j);
+                if is_stitch(a, b, margin, wrong) {
+                    edges.stitches.push((i, j));
+                }
+                if is_tie(a, b, margin, wrong) {
+                    edges.ties.push((i, j));
                 }
             }
         }
-        graph
-    }
-
-    pub fn size(&self) -> usize {
-        self.conflicts.len()
+        edges
     }
 }
 
@@ -81,10 +80,27 @@ fn contact(a: &Piece, b: &Piece) -> i64 {
     }
 }
 
+/// Whether two pieces of one shape touch in a corner and nowhere else.
+pub fn is_point(a: &Piece, b: &Piece) -> bool {
+    a.shape == b.shape && overlap_x(a, b) == 0 && overlap_y(a, b) == 0
+}
+
 pub fn is_stitch(a: &Piece, b: &Piece, margin: u64, wrong: Mutation) -> bool {
     let enough = match wrong {
         Mutation::StitchAboveMargin => contact(a, b) > margin as i64,
         _ => contact(a, b) >= margin as i64,
     };
     a.shape == b.shape && enough
+}
+
+/// Whether two pieces of one shape touch along too little for a stitch.
+pub fn is_tie(a: &Piece, b: &Piece, margin: u64, wrong: Mutation) -> bool {
+    let (contact, margin) = (contact(a, b), margin as i64);
+    let too_little = match wrong {
+        Mutation::TieAtMargin => contact <= margin,
+        _ => contact < margin,
+    };
+    let of_one_shape = a.shape == b.shape || wrong == Mutation::TieAcrossShapes;
+    let by_a_point = wrong == Mutation::PointContactTies && is_point(a, b);
+    of_one_shape && contact > 0 && too_little || by_a_point
 }

@@ -4,6 +4,7 @@
 //! Where the self-test can put a fault, a function takes a `Mutation`; `Mutation::None` is the rules.
 
 mod edges;
+mod kinds;
 mod mutation;
 mod peel;
 mod polygon;
@@ -16,14 +17,17 @@ mod stream;
 mod stream_tests;
 #[cfg(test)]
 mod tests;
+mod ties;
 mod units;
 
 use crate::layer::Layer;
-use edges::Graph;
+use edges::Edges;
+pub use kinds::{kinds, KINDS};
 pub use mutation::Mutation;
 pub use read::read;
 pub use score::{least_cost, score, Score};
 pub use stream::read_stream;
+use ties::Graph;
 
 /// Why a call is refused (RULES 11). The place is a line, a piece, a record of a stream, or 0
 /// for nothing.
@@ -86,18 +90,21 @@ fn judge_room(result_size: usize, wrong: Mutation) -> Result<(), Refusal> {
 
 /// The whole decomposition of a valid layer (RULES 4 to 7).
 pub fn run(layer: &Layer, wrong: Mutation) -> Run {
-    let graph = Graph::of(layer, wrong);
+    let edges = Edges::of(layer, wrong);
+    let units = ties::units(layer.pieces.len(), &edges.ties, wrong);
+    let graph = Graph::of(&edges, &units, wrong);
     let peeled = peel::peel(&graph, layer.settings.masks, wrong);
     let searched = search::search(&graph, &peeled.core, &layer.settings, wrong);
-    let masks = peel::put_back(
+    let of_units = peel::put_back(
         &graph,
         &peeled.removed,
         searched.masks,
         layer.settings.masks,
         wrong,
     );
+    let masks: Vec<u64> = units.iter().map(|&unit| of_units[unit]).collect();
     Run {
-        score: score::score_of_graph(&graph, &masks, layer.settings.weight),
+        score: score::score_of_edges(&edges, &masks, layer.settings.weight),
         masks,
         steps: searched.steps,
         best: searched.best,

@@ -12,13 +12,36 @@ pub enum Mutation {
     /// Gaps are squared in 32 bits.
     SquaresIn32Bits,
 
-    /// A piece with conflict edges may go although it has a stitch edge.
+    /// A contact of exactly the margin ties as well.
+    TieAtMargin,
+    /// Pieces of different shapes are tied too.
+    TieAcrossShapes,
+    /// A point contact ties.
+    PointContactTies,
+    /// There are no ties.
+    TiesIgnored,
+    /// Ties do not carry on: a piece joins the lowest one that it is tied to itself.
+    TiesNotCarriedOn,
+    /// A unit is numbered by its highest piece.
+    UnitByHighest,
+    /// A stitch edge inside a unit makes the unit its own neighbour.
+    InsideEdgesCounted,
+    /// The search pays once for all conflict edges between two units.
+    DoubledConflictsOnce,
+    /// The search pays once for all stitch edges between two units.
+    DoubledStitchesOnce,
+    /// The conflict degree counts edges.
+    ConflictDegreeOfEdges,
+    /// The stitch degree counts edges.
+    StitchDegreeOfEdges,
+
+    /// A unit with conflict edges may go although it has a stitch edge.
     PeelStitchBelowTwo,
-    /// A piece may go with as many conflict edges as masks.
+    /// A unit may go with as many neighbours in conflict as masks.
     PeelAtMasks,
-    /// A round removes the highest-numbered piece that may go.
+    /// A round removes the highest-numbered unit that may go.
     PeelHighestFirst,
-    /// The piece that was removed first returns first.
+    /// The unit that was removed first returns first.
     PutBackInOrder,
 
     /// Stitch edges do not hold a component together.
@@ -175,10 +198,21 @@ pub enum Mutation {
 
 impl Mutation {
     /// Faults that a layer text shows.
-    pub const OF_LAYERS: [Mutation; 27] = [
+    pub const OF_LAYERS: [Mutation; 38] = [
         Mutation::ConflictAtSpacing,
         Mutation::StitchAboveMargin,
         Mutation::SquaresIn32Bits,
+        Mutation::TieAtMargin,
+        Mutation::TieAcrossShapes,
+        Mutation::PointContactTies,
+        Mutation::TiesIgnored,
+        Mutation::TiesNotCarriedOn,
+        Mutation::UnitByHighest,
+        Mutation::InsideEdgesCounted,
+        Mutation::DoubledConflictsOnce,
+        Mutation::DoubledStitchesOnce,
+        Mutation::ConflictDegreeOfEdges,
+        Mutation::StitchDegreeOfEdges,
         Mutation::PeelStitchBelowTwo,
         Mutation::PeelAtMasks,
         Mutation::PeelHighestFirst,

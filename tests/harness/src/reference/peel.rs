@@ -1,15 +1,15 @@
-//! Pieces that can wait until the others have their masks (RULES 4 and 7).
+//! Units that can wait until the others have their masks (RULES 4 and 7).
 
-use super::edges::Graph;
 use super::mutation::Mutation;
+use super::ties::{Graph, Near};
 
-/// A removed piece, and by which case it went.
+/// A removed unit, and by which case it went.
 #[derive(Clone, Copy)]
 pub enum Removed {
-    /// (A): no stitch edge and fewer conflict edges than masks.
+    /// (A): no stitch edge, and conflict edges to fewer units than there are masks.
     Loose(usize),
-    /// (B): no conflict edge and one stitch edge, to `to`.
-    Hanging { piece: usize, to: usize },
+    /// (B): no conflict edge, and stitch edges to one unit.
+    Hanging { unit: usize, to: Near },
 }
 
 pub struct Peeled {
@@ -20,14 +20,17 @@ pub struct Peeled {
 }
 
 pub fn peel(graph: &Graph, masks: u64, wrong: Mutation) -> Peeled {
-    let mut there = vec![true; graph.size()];
+    let mut there = vec![false; graph.size()];
+    for &unit in &graph.units {
+        there[unit] = true;
+    }
     let mut removed = Vec::new();
     while let Some(next) = lowest_that_may_go(graph, &there, masks, wrong) {
-        let (Removed::Loose(piece) | Removed::Hanging { piece, .. }) = next;
-        there[piece] = false;
+        let (Removed::Loose(unit) | Removed::Hanging { unit, .. }) = next;
+        there[unit] = false;
         removed.push(next);
     }
-    let core = (0..graph.size()).filter(|&piece| there[piece]).collect();
+    let core = (0..graph.size()).filter(|&unit| there[unit]).collect();
     Peeled { removed, core }
 }
 
@@ -37,43 +40,52 @@ fn lowest_that_may_go(
     masks: u64,
     wrong: Mutation,
 ) -> Option<Removed> {
-    let mut pieces = (0..graph.size()).filter(|&piece| there[piece]);
-    let may_go = |piece| may_go(graph, there, piece, masks, wrong);
+    let mut units = (0..graph.size()).filter(|&unit| there[unit]);
+    let may_go = |unit| may_go(graph, there, unit, masks, wrong);
     match wrong {
-        Mutation::PeelHighestFirst => pieces.rev().find_map(may_go),
-        _ => pieces.find_map(may_go),
+        Mutation::PeelHighestFirst => units.rev().find_map(may_go),
+        _ => units.find_map(may_go),
     }
 }
 
 fn may_go(
     graph: &Graph,
     there: &[bool],
-    piece: usize,
+    unit: usize,
     masks: u64,
     wrong: Mutation,
 ) -> Option<Removed> {
-    let still_there = |near: &[usize]| -> Vec<usize> {
-        near.iter().copied().filter(|&other| there[other]).collect()
-    };
-    let conflicts = still_there(&graph.conflicts[piece]);
-    let stitches = still_there(&graph.stitches[piece]);
+    let still_there =
+        |near: &[Near]| -> Vec<Near> { near.iter().copied().filter(|n| there[n.unit]).collect() };
+    let conflicts = still_there(&graph.conflicts[unit]);
+    let stitches = still_there(&graph.stitches[unit]);
+    let conflict_degree = degree(&conflicts, wrong == Mutation::ConflictDegreeOfEdges);
+    let stitch_degree = degree(&stitches, wrong == Mutation::StitchDegreeOfEdges);
     let few_conflicts = match wrong {
-        Mutation::PeelAtMasks => conflicts.len() as u64 <= masks,
-        _ => (conflicts.len() as u64) < masks,
+        Mutation::PeelAtMasks => conflict_degree <= masks,
+        _ => conflict_degree < masks,
     };
-    if stitches.is_empty() && few_conflicts {
-        Some(Removed::Loose(piece))
-    } else if conflicts.is_empty() && stitches.len() == 1 {
+    if stitch_degree == 0 && few_conflicts {
+        Some(Removed::Loose(unit))
+    } else if conflict_degree == 0 && stitch_degree == 1 {
         let to = stitches[0];
-        Some(Removed::Hanging { piece, to })
-    } else if wrong == Mutation::PeelStitchBelowTwo && stitches.len() < 2 && few_conflicts {
-        Some(Removed::Loose(piece))
+        Some(Removed::Hanging { unit, to })
+    } else if wrong == Mutation::PeelStitchBelowTwo && stitch_degree < 2 && few_conflicts {
+        Some(Removed::Loose(unit))
     } else {
         None
     }
 }
 
-/// Gives the removed pieces their masks. A piece that is not there has no mask yet.
+/// How many neighbours there are. Only a fault counts the edges to them.
+fn degree(near: &[Near], by_edges: bool) -> u64 {
+    if by_edges {
+        return near.iter().map(|n| n.edges).sum();
+    }
+    near.len() as u64
+}
+
+/// Gives the removed units their masks. A unit that is not there has no mask yet.
 pub fn put_back(
     graph: &Graph,
     removed: &[Removed],
@@ -87,18 +99,18 @@ pub fn put_back(
     }
     for next in returning {
         match next {
-            Removed::Loose(piece) => there[piece] = lowest_free(graph, &there, piece, masks),
-            Removed::Hanging { piece, to } => there[piece] = there[to],
+            Removed::Loose(unit) => there[unit] = lowest_free(graph, &there, unit, masks),
+            Removed::Hanging { unit, to } => there[unit] = there[to.unit],
         }
     }
-    // By the rules every piece has a mask here; mutations can leave one without.
+    // By the rules every unit has a mask here; mutations can leave one without.
     there.into_iter().map(|mask| mask.unwrap_or(0)).collect()
 }
 
-fn lowest_free(graph: &Graph, there: &[Option<u64>], piece: usize, masks: u64) -> Option<u64> {
+fn lowest_free(graph: &Graph, there: &[Option<u64>], unit: usize, masks: u64) -> Option<u64> {
     let taken = |mask| {
-        let mut near = graph.conflicts[piece].iter();
-        near.any(|&other| there[other] == Some(mask))
+        let mut near = graph.conflicts[unit].iter();
+        near.any(|n| there[n.unit] == Some(mask))
     };
     (0..masks).find(|&mask| !taken(mask))
 }

@@ -1,11 +1,11 @@
 //! Components of the core, their first assignments and the search within the budget (RULES 5, 6).
 
-use super::edges::Graph;
 use super::mutation::Mutation;
+use super::ties::{Graph, Near};
 use crate::layer::Settings;
 
 pub struct Searched {
-    /// The masks of the core; other pieces have none yet.
+    /// The masks of the core; other units have none yet.
     pub masks: Vec<Option<u64>>,
     pub steps: u64,
     pub best: bool,
@@ -30,8 +30,8 @@ pub fn search(graph: &Graph, core: &[usize], settings: &Settings, wrong: Mutatio
             Mutation::StoppedKeepsFirst if budget.used_up => first,
             _ => reached,
         };
-        for (&piece, mask) in component.iter().zip(kept) {
-            masks[piece] = Some(mask);
+        for (&unit, mask) in component.iter().zip(kept) {
+            masks[unit] = Some(mask);
         }
     }
     let full = wrong == Mutation::FullBudgetIsOpen && budget.steps == budget.limit;
@@ -42,17 +42,17 @@ pub fn search(graph: &Graph, core: &[usize], settings: &Settings, wrong: Mutatio
     }
 }
 
-/// The connected components in the order of their lowest piece, each rising.
+/// The connected components in the order of their lowest unit, each rising.
 fn components(graph: &Graph, core: &[usize], wrong: Mutation) -> Vec<Vec<usize>> {
     let mut left = vec![false; graph.size()];
-    for &piece in core {
-        left[piece] = true;
+    for &unit in core {
+        left[unit] = true;
     }
     let mut components = Vec::new();
-    for &piece in core {
-        if left[piece] {
+    for &unit in core {
+        if left[unit] {
             let mut component = Vec::new();
-            collect(graph, piece, &mut left, &mut component, wrong);
+            collect(graph, unit, &mut left, &mut component, wrong);
             component.sort();
             components.push(component);
         }
@@ -60,23 +60,23 @@ fn components(graph: &Graph, core: &[usize], wrong: Mutation) -> Vec<Vec<usize>>
     components
 }
 
-/// Takes a piece, and everything that is joined to it, out of those left.
+/// Takes a unit, and everything that is joined to it, out of those left.
 fn collect(
     graph: &Graph,
-    piece: usize,
+    unit: usize,
     left: &mut [bool],
     component: &mut Vec<usize>,
     wrong: Mutation,
 ) {
-    left[piece] = false;
-    component.push(piece);
-    let mut near = graph.conflicts[piece].clone();
+    left[unit] = false;
+    component.push(unit);
+    let mut near = graph.conflicts[unit].clone();
     if wrong != Mutation::ComponentsByConflicts {
-        near.extend(&graph.stitches[piece]);
+        near.extend(&graph.stitches[unit]);
     }
-    for other in near {
-        if left[other] {
-            collect(graph, other, left, component, wrong);
+    for Near { unit, .. } in near {
+        if left[unit] {
+            collect(graph, unit, left, component, wrong);
         }
     }
 }
@@ -107,7 +107,7 @@ struct Search<'a> {
     settings: &'a Settings,
     budget: &'a mut Budget,
     wrong: Mutation,
-    /// The search's own masks; pieces that it has not reached have none.
+    /// The search's own masks; units that it has not reached have none.
     partial: Vec<Option<u64>>,
     incumbent: Vec<u64>,
     incumbent_cost: u64,
@@ -132,19 +132,19 @@ impl<'a> Search<'a> {
             incumbent: Vec::new(),
             incumbent_cost: 0,
         };
-        for &piece in component {
-            let mask = search.cheapest(piece);
-            search.incumbent_cost += search.added(piece, mask);
+        for &unit in component {
+            let mask = search.cheapest(unit);
+            search.incumbent_cost += search.added(unit, mask);
             search.incumbent.push(mask);
-            search.partial[piece] = Some(mask);
+            search.partial[unit] = Some(mask);
         }
         search.partial = vec![None; graph.size()];
         search
     }
 
-    /// The lowest of the masks that add least at a piece.
-    fn cheapest(&self, piece: usize) -> u64 {
-        let added = |mask: &u64| self.added(piece, *mask);
+    /// The lowest of the masks that add least at a unit.
+    fn cheapest(&self, unit: usize) -> u64 {
+        let added = |mask: &u64| self.added(unit, *mask);
         match self.wrong {
             Mutation::FirstTakesHighest => (0..self.settings.masks).rev().min_by_key(added),
             _ => (0..self.settings.masks).min_by_key(added),
@@ -152,20 +152,29 @@ impl<'a> Search<'a> {
         .expect("there are at least two masks")
     }
 
-    /// What a mask adds at a piece, against the pieces that have one.
-    fn added(&self, piece: usize, mask: u64) -> u64 {
+    /// What a mask adds at a unit, against the units that have one.
+    fn added(&self, unit: usize, mask: u64) -> u64 {
         let mut cost = 0;
-        for &other in &self.graph.conflicts[piece] {
-            if self.partial[other] == Some(mask) {
-                cost += self.settings.weight;
+        for near in &self.graph.conflicts[unit] {
+            if self.partial[near.unit] == Some(mask) {
+                cost += self.settings.weight * self.paid(near, Mutation::DoubledConflictsOnce);
             }
         }
-        for &other in &self.graph.stitches[piece] {
-            if self.partial[other].unwrap_or(mask) != mask {
-                cost += 1;
+        for near in &self.graph.stitches[unit] {
+            if self.partial[near.unit].unwrap_or(mask) != mask {
+                cost += self.paid(near, Mutation::DoubledStitchesOnce);
             }
         }
         cost
+    }
+
+    /// How many edges to a neighbour are paid for: all, but for the fault.
+    fn paid(&self, near: &Near, once: Mutation) -> u64 {
+        if self.wrong == once {
+            1
+        } else {
+            near.edges
+        }
     }
 
     /// Tries the masks of a place; `cost` is that of the places before it.
@@ -174,17 +183,17 @@ impl<'a> Search<'a> {
             self.becomes_incumbent(cost);
             return;
         }
-        let piece = self.component[place];
+        let unit = self.component[place];
         let cost_on_entry = self.incumbent_cost;
         for mask in 0..self.masks_to_try(place) {
             if !self.budget.step() {
                 break;
             }
-            let cost = cost + self.added(piece, mask);
+            let cost = cost + self.added(unit, mask);
             if self.goes_on(cost, cost_on_entry) {
-                self.partial[piece] = Some(mask);
+                self.partial[unit] = Some(mask);
                 self.place(place + 1, cost);
-                self.partial[piece] = None;
+                self.partial[unit] = None;
             }
         }
     }
@@ -195,7 +204,7 @@ impl<'a> Search<'a> {
         let used = |mask: &u64| {
             earlier
                 .iter()
-                .any(|&piece| self.partial[piece] == Some(*mask))
+                .any(|&unit| self.partial[unit] == Some(*mask))
         };
         match self.wrong {
             Mutation::AllMasksTried => self.settings.masks,
@@ -217,7 +226,7 @@ impl<'a> Search<'a> {
     }
 
     fn becomes_incumbent(&mut self, cost: u64) {
-        let mask_of = |&piece: &usize| self.partial[piece].expect("every place has its mask");
+        let mask_of = |&unit: &usize| self.partial[unit].expect("every place has its mask");
         self.incumbent = self.component.iter().map(mask_of).collect();
         self.incumbent_cost = cost;
     }

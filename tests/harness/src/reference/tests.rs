@@ -1,6 +1,6 @@
 //! The worked cases of RULES 13.
 
-use super::edges::{is_conflict, is_stitch};
+use super::edges::{is_conflict, is_stitch, is_tie};
 use super::*;
 use crate::layer::{Piece, Settings};
 
@@ -98,15 +98,96 @@ fn distances_and_contacts() {
     };
     assert_eq!([near(79, 0), near(80, 0)], [true, false]);
     assert_eq!([near(48, 63), near(48, 64)], [true, false]);
-    let touching = |contact: u64| {
-        let pieces = [[0, 0, 0, 20, 20], [0, 20, 20 - contact, 40, 60]];
+    let touching = |contact: u64, shape: u64| {
+        let pieces = [[0, 0, 0, 20, 20], [shape, 20, 20 - contact, 40, 60]];
         let pieces = layer(2, 0, &pieces).pieces;
-        is_stitch(&pieces[0], &pieces[1], 10, Mutation::None)
+        let (a, b) = (&pieces[0], &pieces[1]);
+        let stitch = is_stitch(a, b, 10, Mutation::None);
+        (stitch, is_tie(a, b, 10, Mutation::None))
     };
-    assert_eq!(
-        [touching(10), touching(9), touching(0)],
-        [true, false, false]
-    );
+    let (stitch, tie, neither) = ((true, false), (false, true), (false, false));
+    assert_eq!([touching(20, 0), touching(10, 0)], [stitch, stitch]);
+    assert_eq!([touching(9, 0), touching(1, 0)], [tie, tie]);
+    assert_eq!([touching(0, 0), touching(9, 1)], [neither, neither]);
+}
+
+/// Pieces 3, 1, 4 and 0 are tied, each to the next. Piece 2 has stitch edges to pieces 1 and 3.
+const CHAIN: [[u64; 5]; 5] = [
+    [0, 60, 33, 80, 53],
+    [0, 20, 11, 40, 31],
+    [0, 0, 20, 20, 40],
+    [0, 0, 0, 20, 20],
+    [0, 40, 22, 60, 42],
+];
+
+#[test]
+fn ties_carry_on() {
+    let edges = Edges::of(&layer(2, 0, &CHAIN), Mutation::None);
+    assert_eq!(edges.ties, [(1, 3), (0, 4), (1, 4)]);
+    assert_eq!(edges.stitches, [(1, 2), (2, 3)]);
+    let units = ties::units(5, &edges.ties, Mutation::None);
+    assert_eq!(units, [0, 0, 2, 0, 0]);
+}
+
+#[test]
+fn two_stitch_edges_to_one_unit() {
+    // Unit 0 hangs on piece 2 by both edges, and then piece 2 has none.
+    let found = (vec![0; 5], [0, 0, 0, 0], true);
+    assert_eq!(outcome(&layer(2, 100, &CHAIN)), found);
+}
+
+#[test]
+fn doubled_edges_are_paid_for_each() {
+    // The wire's tied halves, and two pieces above it that conflict with each other. The second of
+    // these is in conflict with both halves.
+    let pieces = [
+        [0, 100, 20, 200, 40],
+        [0, 200, 9, 300, 29],
+        [1, 100, 110, 161, 130],
+        [2, 239, 99, 300, 119],
+    ];
+    let layer = layer(2, 100, &pieces);
+    assert_eq!(outcome(&layer), (vec![0, 0, 1, 1], [1, 0, 10, 5], true));
+    assert_eq!(least_cost(&layer), 10);
+}
+
+#[test]
+fn a_stitch_edge_inside_a_unit_counts_for_nothing() {
+    let pieces = [
+        [0, 0, 0, 20, 20],
+        [0, 20, 15, 40, 26],
+        [0, 0, 20, 20, 40],
+        [1, 60, 0, 80, 20],
+    ];
+    let found = (vec![1, 1, 1, 0], [0, 0, 0, 0], true);
+    assert_eq!(outcome(&layer(2, 100, &pieces)), found);
+}
+
+#[test]
+fn a_point_contact_ties_nothing() {
+    let pieces = [
+        [0, 0, 0, 20, 20],
+        [0, 20, 20, 40, 40],
+        [1, 110, 20, 130, 40],
+    ];
+    let found = (vec![0, 1, 0], [0, 0, 0, 0], true);
+    assert_eq!(outcome(&layer(2, 100, &pieces)), found);
+}
+
+#[test]
+fn rivals_keep_ties() {
+    // On two masks the halves would leave no conflict.
+    let pieces = [
+        [0, 100, 20, 200, 40],
+        [0, 200, 9, 300, 29],
+        [1, 100, 110, 240, 130],
+        [2, 255, 99, 300, 119],
+    ];
+    let layer = layer(2, 100, &pieces);
+    let edges = Edges::of(&layer, Mutation::None);
+    assert_eq!(score::score_of_edges(&edges, &[0, 1, 1, 0], 10).cost, 0);
+    assert_eq!(outcome(&layer), (vec![0, 0, 1, 0], [1, 0, 10, 5], true));
+    assert_eq!(least_cost(&layer), 10);
 }
 
 fn refused(text: &[u8]) -> Option<(u64, u64)> {
@@ -151,4 +232,14 @@ fn scores() {
     assert_eq!(found, Ok((2, 1, 21)));
     assert_eq!(score(&layer, &[0, 1, 0]), Err(Refusal::new(7, 0)));
     assert_eq!(score(&layer, &[0, 1, 2, 2]), Err(Refusal::new(8, 2)));
+}
+
+#[test]
+fn scores_of_ties() {
+    let layer = layer(2, 0, &CHAIN);
+    let found = score(&layer, &[1, 1, 0, 1, 1]).map(|s| (s.conflicts, s.stitches, s.cost));
+    assert_eq!(found, Ok((0, 2, 2)));
+    assert_eq!(score(&layer, &[1, 1, 0, 0, 1]), Err(Refusal::new(12, 3)));
+    assert_eq!(score(&layer, &[1, 0, 0, 0, 0]), Err(Refusal::new(12, 1)));
+    assert_eq!(score(&layer, &[1, 0, 0, 0, 2]), Err(Refusal::new(8, 4)));
 }

@@ -26,16 +26,16 @@ numbers-of-requires c κs = search needs
 search-core-requires : tie.Need-search-core-requires
 search-core-requires c κs =
     let start = c .before .before .before .before in
-    (core-given _ (start .pre .0) (c .before .before .numbers-of .ensures) (start .pre .1 .0) (start .pre .1 .1 .1 .1), (start .pre .1 .1 .0, start .pre .1 .1 .1 .0))
+    (start .pre .1 .0, (start .pre .1 .1 .0, (start .pre .1 .1 .1 .0, core-given _ (c .before .before .numbers-of .ensures) (start .pre .0) (start .pre .1 .1 .1 .1))))
 
-cast-t12 : tie.Need-cast-t12
-cast-t12 c = omega (arith, left-within (c .before .before), budget-within (c .before .before))
+cast-t16 : tie.Need-cast-t16
+cast-t16 c = omega (arith, left-within (c .before .before), budget-within (c .before .before))
 
-sub-t13 : tie.Need-sub-t13
-sub-t13 c = left-within (c .before .before .before)
+sub-t17 : tie.Need-sub-t17
+sub-t17 c = left-within (c .before .before .before)
 
-array-read-t16 : tie.Need-array-read-t16
-array-read-t16 c = search needs
+array-read-t20 : tie.Need-array-read-t20
+array-read-t20 c = search needs
 
 same-length : tie.Need-same-length
 same-length c = search needs
@@ -43,7 +43,7 @@ same-length c = search needs
 returns : tie.Need-returns
 returns c =
     let ended = c .before .before .before in
-    core-searched _ (begun ended .pre .0) (ended .before .before .before .numbers-of .ensures) (ended .search-core .ensures) refl refl
+    core-searched _ (ended .before .before .before .numbers-of .ensures) (ended .search-core .ensures) refl refl
 
 pub search-spec : {M : Type 1} → statement M
-search-spec = tie.close (tie.spec numbers-of-requires search-core-requires cast-t12 sub-t13 array-read-t16 same-length returns)
+search-spec = tie.close (tie.spec numbers-of-requires search-core-requires cast-t16 sub-t17 array-read-t20 same-length returns)

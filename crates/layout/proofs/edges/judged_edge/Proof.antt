@@ -1,4 +1,4 @@
--- `judged_edge`: a conflict, else a stitch, else nothing. Assumes nothing.
+-- `judged_edge`: a conflict, else a stitch, else a tie, else nothing. Assumes nothing.
 use borrow.Author.Needs.{needs}
 use mathlib.Core.Path.{sym, _∙_}
 use Rattle.rules.specs.Edges.{edgeOf}
@@ -19,9 +19,26 @@ returns-2 : tie.Need-returns-2
 unfolding edgeOf
 returns-2 c = rw (sym (c .before .before .before .conflict .ensures) ∙ c .before .before .if1 .left, sym (c .before .stitch .ensures) ∙ c .if2 .taken)
 
+tie-requires : tie.Need-tie-requires
+tie-requires c κs = search needs
+
 returns-3 : tie.Need-returns-3
 unfolding edgeOf
-returns-3 c = rw (sym (c .before .before .before .conflict .ensures) ∙ c .before .before .if1 .left, sym (c .before .stitch .ensures) ∙ c .if2 .left)
+returns-3 c =
+    rw (
+      sym (c .before .before .before .before .before .conflict .ensures) ∙ c .before .before .before .before .if1 .left,
+      sym (c .before .before .before .stitch .ensures) ∙ c .before .before .if2 .left,
+      sym (c .before .tie .ensures) ∙ c .if3 .taken,
+    )
+
+returns-4 : tie.Need-returns-4
+unfolding edgeOf
+returns-4 c =
+    rw (
+      sym (c .before .before .before .before .before .conflict .ensures) ∙ c .before .before .before .before .if1 .left,
+      sym (c .before .before .before .stitch .ensures) ∙ c .before .before .if2 .left,
+      sym (c .before .tie .ensures) ∙ c .if3 .left,
+    )
 
 pub judged-edge-spec : {M : Type 1} → statement M
-judged-edge-spec = tie.close (tie.spec conflict-requires returns stitch-requires returns-2 returns-3)
+judged-edge-spec = tie.close (tie.spec conflict-requires returns stitch-requires returns-2 tie-requires returns-3 returns-4)

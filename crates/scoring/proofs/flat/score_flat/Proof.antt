@@ -51,13 +51,13 @@ returns-3 c =
 enum-told-2 : tie.Need-enum-told-2
 enum-told-2 c = search needs
 
-score-requires : tie.Need-score-requires
-score-requires c κs = (valid (c .before .before .before .before), c .before .before .before .if1 .left)
+score-units-requires : tie.Need-score-units-requires
+score-units-requires c κs = (valid (c .before .before .before .before), c .before .before .before .if1 .left)
 
 returns-4 : tie.Need-returns-4
 returns-4 c =
     let asked = rw (c .before .before .before .before .if1 .left) at (sym (c .before .before .before .judge-masks .ensures) ∙ ap judgement (c .before .enum-told2 .given .1)) in
-    sym (masks-of _ _ _ _ (valid (c .before .before .before .before .before)) ∙ rw (eq-eqb _ _ (c .before .before .before .before .if1 .left), asked, c .score .ensures))
+    c .score-units .ensures ∙ sym (masks-of _ _ _ _ (valid (c .before .before .before .before .before)) ∙ rw (eq-eqb _ _ (c .before .before .before .before .if1 .left), asked))
 
 pub score-flat-spec : {M : Type 1} → statement M
 score-flat-spec =
@@ -72,5 +72,5 @@ score-flat-spec =
     enum-known-judged
     returns-3
     enum-told-2
-    score-requires
+    score-units-requires
     returns-4)
