@@ -32,7 +32,7 @@ struct Piece {
     y2: i64,
 }
 
-// ---- edges, ties and units (RULES 2)
+// ---- edges, ties and units (RULES 2 and 17)
 
 enum Edge {
     Conflict,

@@ -1,4 +1,4 @@
-// Runs the calls on lent records, and reports of each case whether it came out as stated in RULES 11 to 13: worked cases, and refusals,
+// Runs the calls on lent records, and reports of each case whether it came out as stated in RULES 11 to 13 and 17: worked cases, and refusals,
 // after which lent memory must be as it was.
 ghost use Prim.Native.Nat.{_≤_, _<_};
 
@@ -20,7 +20,7 @@ use rules::WriteAnswer;
 // ---- the layers, by numbers; each is an array of more records than a case lends
 
 // The three squares of RULES 9; those with a piece of no width, one out of range, or one that overlaps; a wire in halves with a piece
-// beside each; and squares far apart.
+// beside each; squares far apart; and two tied pieces with two neighbours.
 const ROW: u32 = 0;
 
 const THIN: u32 = 1;
@@ -32,6 +32,8 @@ const OVERLAP: u32 = 3;
 const WIRE: u32 = 4;
 
 const FAR: u32 = 5;
+
+const TIED: u32 = 6;
 
 fn piece(shape: u32, x1: u32, y1: u32, x2: u32, y2: u32) -> Piece {
     Piece {
@@ -76,6 +78,14 @@ fn wire() -> [Piece; 513] {
     all
 }
 
+fn tied() -> [Piece; 513] {
+    let mut all = [piece(0, 0, 0, 20, 20); 513];
+    all[1] = piece(0, 20, 11, 40, 31);
+    all[2] = piece(1, 10, 60, 30, 80);
+    all[3] = piece(2, 60, 60, 80, 80);
+    all
+}
+
 // A square of a grid with 32 in a row.
 fn far_square(i: u32) -> Piece
     requires { ⌜ i < 512 ⌝ }
@@ -112,6 +122,9 @@ fn records_of(layer: u32) -> [Piece; 513] {
     }
     if layer == FAR {
         return far();
+    }
+    if layer == TIED {
+        return tied();
     }
     row()
 }
@@ -365,6 +378,15 @@ fn results() {
         [0u8; 513],
         best(0, 0, 0, 0),
     );
+    decompose(
+        b"decompose tied pieces",
+        TIED,
+        2,
+        4,
+        4,
+        list(0x0011, 9),
+        best(1, 0, 10, 5),
+    );
 }
 
 fn scores() {
@@ -419,6 +441,22 @@ fn bad_scores() {
     score(b"score 2 masks", ROW, 3, 2, 0x0100, refused(7, 0));
     score(b"score 4 masks", ROW, 3, 4, 0x0100, refused(7, 0));
     score(b"piece 1 on mask 2 of 2", ROW, 3, 3, 0x0220, refused(8, 1));
+    score(
+        b"tied pieces on 0 and 1",
+        TIED,
+        4,
+        4,
+        0x0111,
+        refused(12, 1),
+    );
+    score(
+        b"tied pieces on 0 and 1, mask 2 of 2",
+        TIED,
+        4,
+        4,
+        0x0112,
+        refused(8, 3),
+    );
 }
 
 fn bad_texts() {

@@ -64,7 +64,7 @@ pub record TieCases : Type 0 where
   pub inside-run : decomposed (settingsOf 2 100) inside ≡ done (result (1 ∷ 1 ∷ 1 ∷ 0 ∷ []) 0 0 0 0 Verdict.Best)
   pub corner-edge : edgeBetween (settingsOf 2 100) (piece 0 0 0 20 20) (piece 0 20 20 40 40) ≡ done Edge.None
   pub corner-units : unitsAre corners ≡ 0 ∷ 1 ∷ []
-  -- the first piece that differs from its unit's lowest, after 8 of every piece
+  -- 8 is through with all pieces before 12 looks at one; its place is the lowest piece on a mask that is not its unit's
   pub split : scoreMasks (settingsOf 2 100) chain (0 ∷ 1 ∷ 1 ∷ 1 ∷ 1 ∷ []) ≡ refused 12 (Place.Piece 2)
   pub range-before-split : scoreMasks (settingsOf 2 100) chain (0 ∷ 1 ∷ 1 ∷ 0 ∷ 2 ∷ []) ≡ refused 8 (Place.Piece 4)
   pub kept-together : scoreMasks (settingsOf 2 100) chain (1 ∷ 1 ∷ 1 ∷ 1 ∷ 0 ∷ []) ≡ done (record { conflicts = 3; stitches = 0; cost = 30 })

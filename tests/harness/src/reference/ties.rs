@@ -1,4 +1,4 @@
-//! Units, which ties make of pieces, and the graph that has them as vertices (RULES 2).
+//! Units, which ties make of pieces, and the graph that has them as vertices (RULES 17).
 
 use std::collections::BTreeMap;
 
