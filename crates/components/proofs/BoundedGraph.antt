@@ -13,8 +13,8 @@ use Rattle.bitset.specs.Bits.{hasEdge}
 use Rattle.rules.specs.Basics.{given}
 use Rattle.rules.specs.Edges.{Graph, joined}
 use Rattle.rules.proofs.Lists.{_∈_}
-use Rattle.layout.specs.Adjacency.{wordGraph, BothWays}
-use Rattle.layout.proofs.AdjacencyLaws.{given-test}
+use Rattle.adjacency.specs.Adjacency.{wordGraph, BothWays}
+use Rattle.adjacency.proofs.AdjacencyLaws.{given-test}
 use Rattle.theory.proofs.Reach.{Symmetric}
 use Rattle.theory.proofs.Neighbours.{SameNeighbours}
 

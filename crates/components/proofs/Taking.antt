@@ -11,9 +11,9 @@ use Rattle.rules.specs.Basics.{keep, occurs, without}
 use Rattle.rules.specs.Edges.{Graph}
 use Rattle.rules.specs.Components.{componentOf, componentsFor, components}
 use Rattle.rules.proofs.Lists.{keep-fail, keep-no-longer, occurs-in}
-use Rattle.layout.specs.Adjacency.{wordGraph}
-use Rattle.layout.specs.Members.{membersOf}
-use Rattle.layout.proofs.MemberLaws.{in-members, members-first, members-rest}
+use Rattle.adjacency.specs.Adjacency.{wordGraph}
+use Rattle.adjacency.specs.Members.{membersOf}
+use Rattle.adjacency.proofs.MemberLaws.{in-members, members-first, members-rest}
 use Rattle.components.specs.Component.{IsComponent}
 
 -- rounds beyond the number of vertices change nothing

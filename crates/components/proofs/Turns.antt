@@ -14,9 +14,9 @@ use Rattle.rules.specs.Basics.{without}
 use Rattle.rules.specs.Edges.{joined}
 use Rattle.rules.proofs.Lists.{_∈_}
 use Rattle.rules.proofs.Tests.{by-test, clash, both}
-use Rattle.layout.specs.Adjacency.{wordGraph, BothWays}
-use Rattle.layout.specs.Members.{membersOf}
-use Rattle.layout.proofs.MemberLaws.{in-members, members-out, members-either, members-kept}
+use Rattle.adjacency.specs.Adjacency.{wordGraph, BothWays}
+use Rattle.adjacency.specs.Members.{membersOf}
+use Rattle.adjacency.proofs.MemberLaws.{in-members, members-out, members-either, members-kept}
 use Rattle.theory.proofs.Components.{Component}
 use Rattle.theory.proofs.Neighbours.{SameJoined, joined-same, component-of-same}
 use Rattle.components.specs.Component.{IsComponent}

@@ -5,8 +5,8 @@ use mathlib.Core.Path.{_≡_}
 use Prim.Native.Nat.{ℕ, _<_}
 use Rattle.bitset.specs.Bits.{member, hasEdge}
 use Rattle.rules.specs.Components.{componentOf}
-use Rattle.layout.specs.Adjacency.{wordGraph}
-use Rattle.layout.specs.Members.{membersOf}
+use Rattle.adjacency.specs.Adjacency.{wordGraph}
+use Rattle.adjacency.specs.Members.{membersOf}
 
 -- The set r is the component of v among those left: the rules' component where v is the lowest of them.
 pub record IsComponent (conflictWords stitchWords left : List ℕ) (v : ℕ) (r : List ℕ) : Type 0 where

@@ -4,7 +4,7 @@ ghost use mathlib.Core.Bool.{true};
 ghost use mathlib.Core.Path.{_≡_};
 ghost use Prim.Native.Nat.{_<_};
 ghost use Rattle.bitset.specs.Bits.{member};
-ghost use Rattle.layout.specs.Adjacency.{BothWays};
+ghost use Rattle.adjacency.specs.Adjacency.{BothWays};
 ghost use Rattle.components.specs.Component.{IsComponent};
 
 // The vertices of left that a path through left joins to v, by edges of either kind.

@@ -11,9 +11,9 @@ use Rattle.rules.specs.Edges.{Graph}
 use Rattle.rules.specs.Components.{componentsFor, components}
 use Rattle.rules.specs.Decomposition.{Reached, searchAll}
 use Rattle.rules.proofs.Tests.{both}
-use Rattle.layout.specs.Adjacency.{wordGraph}
-use Rattle.layout.specs.Members.{membersOf}
-use Rattle.layout.proofs.MemberLaws.{members-none}
+use Rattle.adjacency.specs.Adjacency.{wordGraph}
+use Rattle.adjacency.specs.Members.{membersOf}
+use Rattle.adjacency.proofs.MemberLaws.{members-none}
 use Rattle.theory.proofs.Score.{put-length}
 use Rattle.theory.proofs.Neighbours.{SameJoined, components-same}
 use Rattle.components.specs.Component.{IsComponent}

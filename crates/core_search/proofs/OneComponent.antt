@@ -13,9 +13,9 @@ use Rattle.rules.specs.Search.{State, localGraph, added, candidates}
 use Rattle.rules.specs.Decomposition.{putMasks}
 use Rattle.rules.proofs.Lists.{place-in, Rising}
 use Rattle.rules.proofs.Sums.{sum-ext}
-use Rattle.layout.specs.Members.{membersOf}
-use Rattle.layout.specs.UnitGraph.{unitGraph}
-use Rattle.layout.proofs.MemberLaws.{in-members, members-rising}
+use Rattle.adjacency.specs.Members.{membersOf}
+use Rattle.adjacency.specs.UnitGraph.{unitGraph}
+use Rattle.adjacency.proofs.MemberLaws.{in-members, members-rising}
 use Rattle.theory.proofs.Renaming.{from-feasible}
 use Rattle.theory.proofs.SameCost.{from-alike}
 use Rattle.places.specs.Local.{localAdded}

@@ -10,9 +10,9 @@ use Rattle.rules.specs.Edges.{Graph}
 use Rattle.rules.specs.Search.{State, localGraph, searchFrom}
 use Rattle.rules.specs.Components.{components}
 use Rattle.rules.specs.Decomposition.{putMasks, Reached, searchAll}
-use Rattle.layout.specs.Members.{membersOf}
-use Rattle.layout.specs.UnitGraph.{unitAt}
-use Rattle.layout.specs.Adjacency.{BothWays}
+use Rattle.adjacency.specs.Members.{membersOf}
+use Rattle.adjacency.specs.UnitGraph.{unitAt}
+use Rattle.adjacency.specs.Adjacency.{BothWays}
 use Rattle.places.specs.LaidOut.{Exclusive}
 use Rattle.search.specs.Branch.{masksIn, weightIn, budgetIn}
 

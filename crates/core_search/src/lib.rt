@@ -6,7 +6,7 @@
 ghost use mathlib.Core.Path.{_≡_};
 ghost use lib.ListN.{length, set};
 ghost use Rattle.core_search.specs.Core.{Words, Given, OneSearched, CoreSearched};
-ghost use Rattle.layout.specs.UnitGraph.{unitGraph};
+ghost use Rattle.adjacency.specs.UnitGraph.{unitGraph};
 ghost use Rattle.units.specs.Merged.{Merged};
 ghost use Rattle.search.specs.Branch.{budgetIn};
 

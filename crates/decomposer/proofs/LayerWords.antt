@@ -11,8 +11,8 @@ use Rattle.rules.specs.Edges.{conflictEdge, stitchEdge, graphOf}
 use Rattle.rules.proofs.Edges.{undirected, one-kind}
 use Rattle.rules.proofs.Lists.{in-upTo}
 use Rattle.rules.proofs.Tests.{by-test}
-use Rattle.layout.specs.Adjacency.{Adjacency, wordGraph, BothWays}
-use Rattle.layout.proofs.AdjacencyLaws.{given-test, words-symmetric, words-edges, words-exclusive}
+use Rattle.adjacency.specs.Adjacency.{Adjacency, wordGraph, BothWays}
+use Rattle.adjacency.proofs.AdjacencyLaws.{given-test, words-symmetric, words-edges, words-exclusive}
 use Rattle.places.specs.LaidOut.{Exclusive}
 use Rattle.theory.proofs.SameEdges.{SameEdges}
 

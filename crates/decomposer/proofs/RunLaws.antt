@@ -18,11 +18,11 @@ use Rattle.rules.specs.Demands.{AgainstLarger}
 use Rattle.rules.specs.Questions.{Valid}
 use Rattle.rules.proofs.Lists.{_∈_, in-upTo}
 use Rattle.layout.specs.Flat.{piecesOf}
-use Rattle.layout.specs.Adjacency.{Adjacency, wordGraph}
-use Rattle.layout.specs.Members.{membersOf}
-use Rattle.layout.specs.UnitGraph.{unitAt, unitGraph}
+use Rattle.adjacency.specs.Adjacency.{Adjacency, wordGraph}
+use Rattle.adjacency.specs.Members.{membersOf}
+use Rattle.adjacency.specs.UnitGraph.{unitAt, unitGraph}
 use Rattle.layout.proofs.PieceLaws.{pieces-length, valid-flat}
-use Rattle.layout.proofs.MemberLaws.{in-members}
+use Rattle.adjacency.proofs.MemberLaws.{in-members}
 use Rattle.units.specs.Numbered.{UnitsOf}
 use Rattle.core_search.specs.Core.{Words}
 use Rattle.scoring.proofs.ScoreLaws.{words-score}

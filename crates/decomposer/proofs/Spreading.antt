@@ -10,7 +10,7 @@ use lib.ListN.{length, getD, set, length-set}
 use lib.Seq.{getD-set-same, getD-set-other}
 use Rattle.rules.specs.Units.{spread}
 use Rattle.rules.proofs.Tests.{lt-or-ge}
-use Rattle.layout.specs.UnitGraph.{unitAt}
+use Rattle.adjacency.specs.UnitGraph.{unitAt}
 use Rattle.theory.proofs.Merging.{Grouping, spread-only}
 
 -- the pieces below i have their units' masks

@@ -13,10 +13,10 @@ use Rattle.rules.specs.Components.{components}
 use Rattle.rules.specs.Decomposition.{Reached, searchAll, withReturned}
 use Rattle.rules.specs.Settings.{settingsInRange}
 use Rattle.rules.proofs.Ranges.{settings-facts}
-use Rattle.layout.specs.Adjacency.{wordGraph}
-use Rattle.layout.specs.Members.{membersOf}
-use Rattle.layout.specs.UnitGraph.{unitGraph}
-use Rattle.layout.proofs.MemberLaws.{in-members}
+use Rattle.adjacency.specs.Adjacency.{wordGraph}
+use Rattle.adjacency.specs.Members.{membersOf}
+use Rattle.adjacency.specs.UnitGraph.{unitGraph}
+use Rattle.adjacency.proofs.MemberLaws.{in-members}
 use Rattle.units.specs.Merged.{Merged}
 use Rattle.units.proofs.UnitNeighbours.{unit-neighbours}
 use Rattle.reduction.specs.Removals.{PeeledTo}

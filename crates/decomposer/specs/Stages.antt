@@ -9,7 +9,7 @@ use Rattle.rules.specs.declared.layer.Settings.{Settings}
 use Rattle.rules.specs.Components.{components}
 use Rattle.rules.specs.Edges.{Graph}
 use Rattle.rules.specs.Decomposition.{Reached, searchAll, decompose}
-use Rattle.layout.specs.Members.{membersOf}
+use Rattle.adjacency.specs.Members.{membersOf}
 use Rattle.decomposer.specs.declared.stages.Searched.{Searched}
 
 -- each of the vertices has a place among the masks

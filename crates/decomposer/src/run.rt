@@ -8,7 +8,7 @@ ghost use Rattle.rules.specs.Demands.{AgainstLarger};
 ghost use Rattle.rules.specs.Questions.{Valid};
 ghost use Rattle.rules.specs.Units.{spread};
 ghost use Rattle.layout.specs.Flat.{piecesOf};
-ghost use Rattle.layout.specs.UnitGraph.{unitAt};
+ghost use Rattle.adjacency.specs.UnitGraph.{unitAt};
 ghost use Rattle.theory.proofs.Merging.{Grouping};
 use crate::stages::decompose_units;
 use rules::Decomposition;

@@ -4,7 +4,7 @@ ghost use mathlib.Core.List.{[], _∷_};
 ghost use mathlib.Core.Path.{_≡_};
 ghost use lib.ListN.{length, replicate};
 ghost use Rattle.rules.specs.Settings.{settingsInRange};
-ghost use Rattle.layout.specs.UnitGraph.{unitGraph};
+ghost use Rattle.adjacency.specs.UnitGraph.{unitGraph};
 ghost use Rattle.units.specs.Merged.{Merged};
 ghost use Rattle.core_search.specs.Core.{Words};
 ghost use Rattle.decomposer.specs.Stages.{HasPlaces, SearchedCore, Decomposed};

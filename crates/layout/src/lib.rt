@@ -1,17 +1,19 @@
-// Pieces as numbers, five to a piece: storing records so, judging a layer (questions 4 to 6 of RULES 11), the edge between
-// two pieces and the adjacency words of the decomposition graph (RULES 2). Scoring, peeling and the search stand on these
-// words; the public calls on records stand on the storing and the judging.
-mod adjacency;
+// Pieces as numbers, five to a piece: storing records so, judging a layer (questions 4 to 6 of RULES 11), and the edge or tie
+// between two pieces (RULES 2). Adjacency words stand on the edges; the public calls on records stand on the storing and the
+// judging.
 mod distance;
 mod edges;
 mod flat;
 mod judging;
 
-pub use adjacency::adjacency_words;
 pub use distance::greater;
 pub use distance::lesser;
+pub use edges::conflict;
 pub use edges::edge;
+pub use edges::stitch;
+pub use edges::tie;
 pub use flat::flatten;
+pub use flat::piece_at;
 pub use flat::put;
 pub use judging::Judgement;
 pub use judging::judge;

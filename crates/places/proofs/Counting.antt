@@ -14,13 +14,13 @@ use Rattle.rules.specs.Basics.{given, sumOf, upTo, countOf, keep, occurs}
 use Rattle.rules.specs.Units.{mergedInto, edgesBetween}
 use Rattle.rules.proofs.Lists.{_∈_, here, later, each-cons, none-in, keep-in, keep-no-longer, in-upTo, upTo-snoc, length-upTo, length-keep, count-keep}
 use Rattle.rules.proofs.Tests.{by-test, and-right}
-use Rattle.layout.specs.Members.{membersOf}
-use Rattle.layout.specs.UnitGraph.{unitAt}
+use Rattle.adjacency.specs.Members.{membersOf}
+use Rattle.adjacency.specs.UnitGraph.{unitAt}
 use Rattle.theory.proofs.Cost.{sum-zero, sum-add}
 use Rattle.theory.proofs.EdgeLists.{Lists}
 use Rattle.theory.proofs.Merging.{member-in}
 use Rattle.theory.proofs.Neighbours.{count-same}
-use Rattle.layout.specs.Adjacency.{BothWays}
+use Rattle.adjacency.specs.Adjacency.{BothWays}
 use Rattle.places.specs.Storing.{pieceEntries, placeEntries}
 use Rattle.places.specs.LaidOut.{Exclusive}
 use Rattle.places.proofs.Seating.{Placed, placed-past, placed-at, placed-apart, piece-of, piece-past}

@@ -10,7 +10,7 @@ use borrow.Author.Tests.{eqb-true, eqb-false}
 use Rattle.rules.specs.Basics.{upFrom, keep}
 use Rattle.rules.specs.Units.{mergedInto}
 use Rattle.rules.proofs.Lists.{keep-cases}
-use Rattle.layout.specs.UnitGraph.{unitAt}
+use Rattle.adjacency.specs.UnitGraph.{unitAt}
 use Rattle.places.specs.Chains.{Chain, Linked}
 
 module _ (next : List ℕ) where

@@ -11,7 +11,7 @@ use Rattle.rules.specs.Basics.{given, sumOf}
 use Rattle.rules.specs.Edges.{Graph}
 use Rattle.rules.specs.Search.{localGraph, added}
 use Rattle.rules.proofs.Tests.{lt-or-ge}
-use Rattle.layout.specs.UnitGraph.{unitGraph}
+use Rattle.adjacency.specs.UnitGraph.{unitGraph}
 use Rattle.theory.proofs.EdgeLists.{Lists, added-lists}
 use Rattle.places.specs.Local.{conflictsAt, stitchesAt, endAt, onMask, offMask, localAdded, PlaceLists}
 use Rattle.places.specs.Storing.{entries}

@@ -11,7 +11,7 @@ use Rattle.bitset.proofs.Rising.{least-le}
 use Rattle.rules.specs.Basics.{upTo, keep, without}
 use Rattle.rules.proofs.Lists.{in-keep, keep-in, keep-same, keep-keep, keep-none, in-upTo, upTo-rising, rising-keep}
 use Rattle.rules.proofs.Tests.{eqb-sym}
-use Rattle.layout.proofs.MemberLaws.{rising-first}
+use Rattle.adjacency.proofs.MemberLaws.{rising-first}
 use Rattle.places.specs.Chains.{Chain}
 use Rattle.places.specs.Storing.{Stored, pieceEntries, placeEntries}
 use Rattle.places.proofs.Linking.{Along, along-start, along-end, along-next}

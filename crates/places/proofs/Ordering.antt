@@ -12,8 +12,8 @@ use Rattle.bitset.specs.Bits.{member, First}
 use Rattle.rules.specs.Basics.{without}
 use Rattle.rules.specs.Decomposition.{putMasks}
 use Rattle.rules.proofs.Lists.{_∈_, place-in}
-use Rattle.layout.specs.Members.{membersOf}
-use Rattle.layout.proofs.MemberLaws.{in-members, members-none, members-few, members-first, members-out}
+use Rattle.adjacency.specs.Members.{membersOf}
+use Rattle.adjacency.proofs.MemberLaws.{in-members, members-none, members-few, members-first, members-out}
 use Rattle.places.specs.Order.{Ordered}
 
 -- ---- Members in order

@@ -14,7 +14,7 @@ use Rattle.rules.specs.Basics.{anyOf, occurs}
 use Rattle.rules.specs.Units.{mergedInto}
 use Rattle.rules.proofs.Lists.{any-snoc, occurs-in, occurs-out}
 use Rattle.rules.proofs.Tests.{by-test, clash, both, same, lt-or-ge}
-use Rattle.layout.specs.UnitGraph.{unitAt}
+use Rattle.adjacency.specs.UnitGraph.{unitAt}
 use Rattle.theory.proofs.Merging.{member-in, in-member}
 use Rattle.places.specs.Chains.{Chain, Seated}
 use Rattle.places.proofs.Linking.{Along, along-start, along-end, along-next}

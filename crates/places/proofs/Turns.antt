@@ -9,10 +9,10 @@ use Rattle.bitset.specs.Bits.{member, Empty}
 use Rattle.bitset.proofs.Rising.{first-none}
 use Rattle.rules.specs.Search.{localGraph}
 use Rattle.rules.specs.Units.{mergedInto}
-use Rattle.layout.specs.Members.{membersOf}
-use Rattle.layout.specs.UnitGraph.{unitAt, unitGraph}
-use Rattle.layout.proofs.MemberLaws.{members-none, members-few}
-use Rattle.layout.specs.Adjacency.{BothWays}
+use Rattle.adjacency.specs.Members.{membersOf}
+use Rattle.adjacency.specs.UnitGraph.{unitAt, unitGraph}
+use Rattle.adjacency.proofs.MemberLaws.{members-none, members-few}
+use Rattle.adjacency.specs.Adjacency.{BothWays}
 use Rattle.places.specs.Chains.{Seated}
 use Rattle.places.specs.Storing.{Stored, placeEntries}
 use Rattle.places.specs.LaidOut.{Exclusive, LaidOut}

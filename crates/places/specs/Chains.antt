@@ -7,7 +7,7 @@ use lib.ListN.{length, getD}
 use Rattle.bitset.specs.Bits.{member}
 use Rattle.rules.specs.Basics.{occurs}
 use Rattle.rules.specs.Units.{mergedInto}
-use Rattle.layout.specs.UnitGraph.{unitAt}
+use Rattle.adjacency.specs.UnitGraph.{unitAt}
 
 -- the pieces that the chain from p goes through, in rising order, none below b
 abbrev pub Chain : List ℕ → ℕ → ℕ → List ℕ → Type 0

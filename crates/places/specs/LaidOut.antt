@@ -6,7 +6,7 @@ use Prim.Native.Nat.{ℕ, _<_}
 use lib.ListN.{length}
 use Rattle.bitset.specs.Bits.{hasEdge}
 use Rattle.rules.specs.Search.{localGraph, added}
-use Rattle.layout.specs.UnitGraph.{unitGraph}
+use Rattle.adjacency.specs.UnitGraph.{unitGraph}
 use Rattle.places.specs.Local.{localAdded, PlaceLists}
 
 -- no two pieces are joined by words of both kinds

@@ -3,7 +3,7 @@ use mathlib.Core.List.{List}
 use mathlib.Core.Path.{_≡_}
 use Prim.Native.Nat.{ℕ, _≤_, _<_}
 use lib.ListN.{length, getD, take}
-use Rattle.layout.specs.Members.{membersOf}
+use Rattle.adjacency.specs.Members.{membersOf}
 
 -- the n members of a set were stored in rising order, and nothing else was
 pub record Ordered (members before after : List ℕ) (n : ℕ) : Type 0 where

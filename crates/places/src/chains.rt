@@ -3,7 +3,7 @@ ghost use mathlib.Core.List.{List};
 ghost use mathlib.Core.Path.{_≡_};
 ghost use Prim.Native.Nat.{ℕ, _≤_, _<_};
 ghost use lib.ListN.{length, set, replicate};
-ghost use Rattle.layout.specs.UnitGraph.{unitAt};
+ghost use Rattle.adjacency.specs.UnitGraph.{unitAt};
 ghost use Rattle.places.specs.Chains.{Chain, Linked, Seated};
 
 // Stores a number.

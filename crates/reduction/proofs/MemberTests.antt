@@ -13,8 +13,8 @@ use Rattle.bitset.proofs.Counts.{count-ext}
 use Rattle.rules.specs.Basics.{given, upTo, upFrom, countOf, find}
 use Rattle.rules.proofs.Lists.{upTo-snoc, count-keep}
 use Rattle.rules.proofs.Finding.{find-keep, find-upTo, find-none-upTo}
-use Rattle.layout.specs.Members.{membersOf}
-use Rattle.layout.proofs.AdjacencyLaws.{given-test}
+use Rattle.adjacency.specs.Members.{membersOf}
+use Rattle.adjacency.proofs.AdjacencyLaws.{given-test}
 
 -- ---- counts
 

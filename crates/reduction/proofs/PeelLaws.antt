@@ -18,9 +18,9 @@ use Rattle.rules.specs.Edges.{Graph, inStitch}
 use Rattle.rules.specs.Peeling.{conflictDegree, stitchDegree, lowDegree, mayGo, Removal, removalOf, Peeled, peelFor, peel}
 use Rattle.rules.proofs.Lists.{_∈_, first-in, find-first, length-without, Distinct, count-some}
 use Rattle.rules.proofs.Tests.{by-test, clash, and-left, and-right}
-use Rattle.layout.specs.Adjacency.{wordGraph}
-use Rattle.layout.specs.Members.{membersOf}
-use Rattle.layout.proofs.MemberLaws.{in-members, members-distinct, members-few, members-out}
+use Rattle.adjacency.specs.Adjacency.{wordGraph}
+use Rattle.adjacency.specs.Members.{membersOf}
+use Rattle.adjacency.proofs.MemberLaws.{in-members, members-distinct, members-few, members-out}
 use Rattle.reduction.specs.Removals.{removalAt, removalsOf, Put, Stored, PeeledTo}
 use Rattle.reduction.proofs.MemberTests.{degree, among, found-member}
 

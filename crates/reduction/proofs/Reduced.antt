@@ -9,8 +9,8 @@ use Rattle.bitset.specs.Bits.{member}
 use Rattle.rules.specs.Edges.{Graph}
 use Rattle.rules.specs.Peeling.{peel}
 use Rattle.rules.specs.Decomposition.{withReturned}
-use Rattle.layout.specs.Adjacency.{wordGraph}
-use Rattle.layout.specs.Members.{membersOf}
+use Rattle.adjacency.specs.Adjacency.{wordGraph}
+use Rattle.adjacency.specs.Members.{membersOf}
 use Rattle.reduction.specs.Removals.{PeeledTo}
 use Rattle.reduction.specs.Returning.{Masked, Placeable, PutBack}
 

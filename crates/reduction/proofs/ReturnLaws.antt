@@ -21,10 +21,10 @@ use Rattle.rules.specs.Decomposition.{Placed, freeMask, putBack, putBackAll}
 use Rattle.rules.proofs.Lists.{_∈_, here, later, here-or-later, set-each, Same, any-same, out-any, length-without}
 use Rattle.rules.proofs.Finding.{find-upTo, find-none-upTo, find-same, any-members, any-without}
 use Rattle.rules.proofs.Tests.{by-test, and-left, and-right, or-either, eqb-sym}
-use Rattle.layout.specs.Adjacency.{wordGraph}
-use Rattle.layout.specs.Members.{membersOf}
-use Rattle.layout.proofs.AdjacencyLaws.{given-test}
-use Rattle.layout.proofs.MemberLaws.{in-members, members-distinct, members-out}
+use Rattle.adjacency.specs.Adjacency.{wordGraph}
+use Rattle.adjacency.specs.Members.{membersOf}
+use Rattle.adjacency.proofs.AdjacencyLaws.{given-test}
+use Rattle.adjacency.proofs.MemberLaws.{in-members, members-distinct, members-out}
 use Rattle.reduction.specs.Removals.{removalAt, removalsOf}
 use Rattle.reduction.specs.Returning.{takes, InUse, FreeIn, ReturnsWith, Masked, PutBack}
 

@@ -9,7 +9,7 @@ use lib.ListN.{getD}
 use Rattle.bitset.specs.Bits.{member}
 use Rattle.rules.specs.Edges.{Graph}
 use Rattle.rules.specs.Peeling.{Removal, low, pendant, peel}
-use Rattle.layout.specs.Members.{membersOf}
+use Rattle.adjacency.specs.Members.{membersOf}
 
 -- a vertex and its neighbour, as they are stored
 abbrev pub removalAt : ℕ → ℕ → Removal

@@ -10,8 +10,8 @@ use Rattle.bitset.specs.Bits.{bit, member, hasEdge}
 use Rattle.rules.specs.Basics.{upTo, anyOf, find, foundOr}
 use Rattle.rules.specs.Score.{maskOf}
 use Rattle.rules.specs.Decomposition.{freeMask, putBackAll}
-use Rattle.layout.specs.Adjacency.{wordGraph}
-use Rattle.layout.specs.Members.{membersOf}
+use Rattle.adjacency.specs.Adjacency.{wordGraph}
+use Rattle.adjacency.specs.Members.{membersOf}
 use Rattle.reduction.specs.Removals.{removalsOf}
 
 -- whether u is joined to v and has mask m

@@ -4,8 +4,8 @@ ghost use mathlib.Core.Path.{_≡_};
 ghost use Prim.Native.Nat.{_<_, _≤_};
 ghost use Rattle.rules.specs.Basics.{find, foundOr};
 ghost use Rattle.rules.specs.Peeling.{mayGo};
-ghost use Rattle.layout.specs.Adjacency.{wordGraph};
-ghost use Rattle.layout.specs.Members.{membersOf};
+ghost use Rattle.adjacency.specs.Adjacency.{wordGraph};
+ghost use Rattle.adjacency.specs.Members.{membersOf};
 ghost use Rattle.reduction.specs.Removals.{Put, PeeledTo};
 
 // Whether v may go: by (A), no stitch neighbour and fewer conflict neighbours than masks, or by (B), no conflict neighbour

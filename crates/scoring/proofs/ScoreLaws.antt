@@ -18,10 +18,10 @@ use Rattle.rules.specs.Units.{unitOf}
 use Rattle.rules.specs.Questions.{Outcome, done, ask, andThen, askEach, Valid}
 use Rattle.rules.specs.Calls.{scoreMasks}
 use Rattle.layout.specs.Flat.{piecesOf}
-use Rattle.layout.specs.Adjacency.{Adjacency, wordGraph}
-use Rattle.layout.specs.UnitGraph.{unitAt}
+use Rattle.adjacency.specs.Adjacency.{Adjacency, wordGraph}
+use Rattle.adjacency.specs.UnitGraph.{unitAt}
 use Rattle.layout.proofs.PieceLaws.{pieces-length}
-use Rattle.layout.proofs.AdjacencyLaws.{words-edges}
+use Rattle.adjacency.proofs.AdjacencyLaws.{words-edges}
 use Rattle.units.specs.Numbered.{UnitsOf}
 use Rattle.theory.proofs.Units.{grouping}
 use Rattle.scoring.specs.ScoreWords.{conflictIn, stitchIn, maskQuestion, unitQuestion, unitsScored}

@@ -4,7 +4,7 @@ ghost use Prim.Native.Nat.{_<_, _≤_};
 ghost use lib.ListN.{length};
 ghost use Rattle.rules.specs.Basics.{given};
 ghost use Rattle.rules.specs.Score.{scoreOf, costOf};
-ghost use Rattle.layout.specs.Adjacency.{wordGraph};
+ghost use Rattle.adjacency.specs.Adjacency.{wordGraph};
 ghost use Rattle.scoring.specs.ScoreWords.{conflictIn, stitchIn, RowCount};
 use rules::Score;
 

@@ -7,7 +7,7 @@ ghost use Rattle.rules.specs.Calls.{scoreMasks};
 ghost use Rattle.rules.specs.Questions.{askEach, Valid};
 ghost use Rattle.layout.specs.Flat.{piecesOf};
 ghost use Rattle.layout.specs.Judged.{judgement};
-ghost use Rattle.layout.specs.UnitGraph.{unitAt};
+ghost use Rattle.adjacency.specs.UnitGraph.{unitAt};
 ghost use Rattle.scoring.specs.ScoreWords.{maskQuestion, unitQuestion, unitsScored};
 use crate::counting::score_words;
 use layout::Judgement;

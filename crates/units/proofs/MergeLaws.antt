@@ -15,10 +15,10 @@ use Rattle.rules.specs.Basics.{upFrom, upTo, anyOf}
 use Rattle.rules.proofs.Lists.{any-in, in-any, any-next, out-any, in-upTo}
 use Rattle.rules.proofs.Finding.{any-without}
 use Rattle.rules.proofs.Tests.{both, or-either, same, lt-or-ge}
-use Rattle.layout.specs.Members.{membersOf}
-use Rattle.layout.specs.UnitGraph.{unitAt}
-use Rattle.layout.proofs.MemberLaws.{in-members, members-below, members-out}
-use Rattle.layout.specs.Adjacency.{BothWays}
+use Rattle.adjacency.specs.Members.{membersOf}
+use Rattle.adjacency.specs.UnitGraph.{unitAt}
+use Rattle.adjacency.proofs.MemberLaws.{in-members, members-below, members-out}
+use Rattle.adjacency.specs.Adjacency.{BothWays}
 use Rattle.units.specs.Merged.{Merged}
 use Rattle.units.specs.Steps.{twoUnits, joinsUnits, MergedRow}
 use Rattle.units.proofs.UnitNeighbours.{UnitEdge, unit-edge, other-way, unit-edge-back}

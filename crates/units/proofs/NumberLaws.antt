@@ -16,10 +16,10 @@ use Rattle.rules.specs.Components.{components}
 use Rattle.rules.specs.Units.{lowest, partOf}
 use Rattle.rules.proofs.Lists.{keep-same, keep-keep, in-upTo}
 use Rattle.rules.proofs.Tests.{by-test, clash, both, eqb-sym, not-before}
-use Rattle.layout.specs.Adjacency.{wordGraph}
-use Rattle.layout.specs.Members.{membersOf}
-use Rattle.layout.specs.UnitGraph.{unitAt}
-use Rattle.layout.proofs.MemberLaws.{members-below, members-first, members-occurs}
+use Rattle.adjacency.specs.Adjacency.{wordGraph}
+use Rattle.adjacency.specs.Members.{membersOf}
+use Rattle.adjacency.specs.UnitGraph.{unitAt}
+use Rattle.adjacency.proofs.MemberLaws.{members-below, members-first, members-occurs}
 use Rattle.components.specs.Component.{IsComponent}
 use Rattle.components.proofs.Taking.{components-left}
 use Rattle.units.specs.Numbered.{Numbered}

@@ -14,9 +14,9 @@ use Rattle.rules.specs.Components.{components}
 use Rattle.rules.specs.Units.{tieGraph, unitsOf, unitOf, partOf, unitNumbers}
 use Rattle.rules.proofs.Edges.{tie-sym}
 use Rattle.rules.proofs.Lists.{in-upTo}
-use Rattle.layout.specs.Adjacency.{Ties, wordGraph, BothWays}
-use Rattle.layout.specs.UnitGraph.{unitAt}
-use Rattle.layout.proofs.AdjacencyLaws.{words-symmetric, words-edges}
+use Rattle.adjacency.specs.Adjacency.{Ties, wordGraph, BothWays}
+use Rattle.adjacency.specs.UnitGraph.{unitAt}
+use Rattle.adjacency.proofs.AdjacencyLaws.{words-symmetric, words-edges}
 use Rattle.theory.proofs.Merging.{numbers-same}
 use Rattle.theory.proofs.Neighbours.{SameJoined, components-same}
 use Rattle.units.specs.Numbered.{Numbered, UnitsOf}

@@ -13,9 +13,9 @@ use Rattle.rules.specs.Basics.{given}
 use Rattle.rules.specs.Units.{mergedInto, edgesBetween}
 use Rattle.rules.proofs.Lists.{_∈_, any-in, in-any}
 use Rattle.rules.proofs.Tests.{both, same}
-use Rattle.layout.specs.Adjacency.{wordGraph, BothWays}
-use Rattle.layout.specs.UnitGraph.{unitAt, unitGraph}
-use Rattle.layout.proofs.AdjacencyLaws.{given-test}
+use Rattle.adjacency.specs.Adjacency.{wordGraph, BothWays}
+use Rattle.adjacency.specs.UnitGraph.{unitAt, unitGraph}
+use Rattle.adjacency.proofs.AdjacencyLaws.{given-test}
 use Rattle.theory.proofs.Merging.{member-in, in-member, merged-neighbours}
 use Rattle.theory.proofs.Neighbours.{SameNeighbours}
 use Rattle.units.specs.Merged.{Merged}

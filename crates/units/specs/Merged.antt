@@ -6,7 +6,7 @@ use lib.Dec.{ltb}
 use Rattle.bitset.specs.Bits.{hasEdge}
 use Rattle.rules.specs.Basics.{given}
 use Rattle.rules.specs.Units.{edgesBetween}
-use Rattle.layout.specs.UnitGraph.{unitAt}
+use Rattle.adjacency.specs.UnitGraph.{unitAt}
 
 -- two units are joined where their pieces have an edge between them
 pub record Merged (words units : List ℕ) (n : ℕ) (merged : List ℕ) : Type 0 where

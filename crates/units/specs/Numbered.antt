@@ -8,9 +8,9 @@ use Rattle.rules.specs.declared.layer.Piece.{Piece}
 use Rattle.rules.specs.Basics.{upTo}
 use Rattle.rules.specs.Components.{components}
 use Rattle.rules.specs.Units.{partOf, unitOf, unitNumbers}
-use Rattle.layout.specs.Adjacency.{wordGraph}
-use Rattle.layout.specs.Members.{membersOf}
-use Rattle.layout.specs.UnitGraph.{unitAt}
+use Rattle.adjacency.specs.Adjacency.{wordGraph}
+use Rattle.adjacency.specs.Members.{membersOf}
+use Rattle.adjacency.specs.UnitGraph.{unitAt}
 
 -- The first n pieces have the numbers of their units, which are the components that the words join; the set has the units' numbers. What the array has past n
 -- stays.

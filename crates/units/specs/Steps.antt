@@ -7,8 +7,8 @@ use lib.Dec.{eqb}
 use lib.ListN.{length}
 use Rattle.bitset.specs.Bits.{member, hasEdge}
 use Rattle.rules.specs.Basics.{upTo, anyOf}
-use Rattle.layout.specs.Adjacency.{isPair}
-use Rattle.layout.specs.UnitGraph.{unitAt}
+use Rattle.adjacency.specs.Adjacency.{isPair}
+use Rattle.adjacency.specs.UnitGraph.{unitAt}
 
 -- the members of a set were given a number, and no other piece was
 pub record GivenNumber (members : List ℕ) (number : ℕ) (before after : List ℕ) : Type 0 where

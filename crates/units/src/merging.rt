@@ -3,8 +3,8 @@ ghost use mathlib.Core.Bool.{_||_};
 ghost use mathlib.Core.Path.{_≡_};
 ghost use Prim.Native.Nat.{ℕ, _≤_, _<_};
 ghost use Rattle.bitset.specs.Bits.{hasEdge};
-ghost use Rattle.layout.specs.UnitGraph.{unitAt};
-ghost use Rattle.layout.specs.Adjacency.{BothWays};
+ghost use Rattle.adjacency.specs.UnitGraph.{unitAt};
+ghost use Rattle.adjacency.specs.Adjacency.{BothWays};
 ghost use Rattle.units.specs.Steps.{twoUnits, MergedRow};
 ghost use Rattle.units.specs.Merged.{Merged};
 

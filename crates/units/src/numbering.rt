@@ -5,7 +5,7 @@ ghost use Prim.Native.Nat.{_≤_, _<_};
 ghost use lib.ListN.{length, set};
 ghost use Rattle.rules.specs.Questions.{Valid};
 ghost use Rattle.layout.specs.Flat.{piecesOf};
-ghost use Rattle.layout.specs.Adjacency.{Adjacency, BothWays};
+ghost use Rattle.adjacency.specs.Adjacency.{Adjacency, BothWays};
 ghost use Rattle.units.specs.Steps.{GivenNumber};
 ghost use Rattle.units.specs.Numbered.{Numbered, UnitsOf};
 use rules::Settings;
@@ -74,6 +74,6 @@ pub fn layer_units(
     ensures { λ r. ⌜ UnitsOf settings (piecesOf (now (flat .entry)) n) (now (units .entry)) (now (units .exit)) r ⌝ }
 {
     let mut ties = [0u64; 4096];
-    layout::adjacency_words(settings, flat, n, conflicts, stitches, &mut ties);
+    adjacency::adjacency_words(settings, flat, n, conflicts, stitches, &mut ties);
     number_units(&ties, n, units)
 }

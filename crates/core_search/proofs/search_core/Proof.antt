@@ -5,11 +5,11 @@ use mathlib.Core.Path.{_≡_, refl, subst}
 use Prim.Native.Nat.{ℕ, _<_}
 use lib.ListN.{length}
 use Rattle.bitset.specs.Bits.{First}
-use Rattle.layout.specs.Members.{membersOf}
-use Rattle.layout.specs.UnitGraph.{unitGraph}
+use Rattle.adjacency.specs.Members.{membersOf}
+use Rattle.adjacency.specs.UnitGraph.{unitGraph}
 use Rattle.components.proofs.Taking.{fewer-left}
-use Rattle.layout.specs.Adjacency.{wordGraph}
-use Rattle.layout.proofs.MemberLaws.{in-members}
+use Rattle.adjacency.specs.Adjacency.{wordGraph}
+use Rattle.adjacency.proofs.MemberLaws.{in-members}
 use Rattle.theory.proofs.Neighbours.{SameJoined, joined-same}
 use Rattle.units.proofs.UnitNeighbours.{unit-neighbours, merged-ways}
 use Rattle.core_search.proofs.CoreLaws.{CoreLeft, core-all, core-done, core-given, core-next}

@@ -4,7 +4,7 @@ use mathlib.Core.List.{List}
 use mathlib.Core.Path.{_≡_, subst, subst⁻¹}
 use Prim.Native.Nat.{ℕ, suc, _-_, _<_}
 use lib.ListN.{set}
-use Rattle.layout.specs.UnitGraph.{unitAt}
+use Rattle.adjacency.specs.UnitGraph.{unitAt}
 use Rattle.places.proofs.Linking.{Linking, linking-none, linking-next, linking-all}
 use Rattle.places.proofs.chains.link.Statement.{statement}
 use Rattle.places.proofs.chains.link.Tie as tie

@@ -5,7 +5,7 @@ use mathlib.Core.Path.{_≡_, refl, subst⁻¹}
 use Prim.Native.Nat.{ℕ, _+_, _-_, _≤_, _<_}
 use lib.ListN.{length, getD, replicate, length-replicate}
 use Rattle.rules.specs.Units.{mergedInto}
-use Rattle.layout.specs.UnitGraph.{unitAt}
+use Rattle.adjacency.specs.UnitGraph.{unitAt}
 use Rattle.places.specs.Chains.{Chain}
 use Rattle.places.specs.Storing.{placeEntries}
 use Rattle.places.proofs.Linking.{linked-within}

@@ -9,8 +9,8 @@ use borrow.Author.Count.{below-more}
 use Rattle.bitset.specs.Bits.{member}
 use Rattle.rules.specs.Basics.{foundOr}
 use Rattle.rules.specs.Peeling.{mayGo}
-use Rattle.layout.specs.Adjacency.{wordGraph}
-use Rattle.layout.specs.Members.{membersOf}
+use Rattle.adjacency.specs.Adjacency.{wordGraph}
+use Rattle.adjacency.specs.Members.{membersOf}
 use Rattle.reduction.proofs.MemberTests.{found-member, found-no-member}
 use Rattle.reduction.proofs.peeling.lowest_to_go.Statement.{statement}
 use Rattle.reduction.proofs.peeling.lowest_to_go.Tie as tie

@@ -4,8 +4,8 @@ use borrow.Author.Needs.{needs}
 use Prim.Native.Nat.{_+_, _<_}
 use native.Mathlib.Omega.{arith}
 use lib.ListN.{length}
-use Rattle.layout.specs.Adjacency.{wordGraph}
-use Rattle.layout.specs.Members.{membersOf}
+use Rattle.adjacency.specs.Adjacency.{wordGraph}
+use Rattle.adjacency.specs.Members.{membersOf}
 use Rattle.reduction.proofs.PeelLaws.{Progress, progress-none, progress-more, progress-end, goes-small, goes-room}
 use Rattle.reduction.proofs.peeling.peel.Statement.{statement}
 use Rattle.reduction.proofs.peeling.peel.Tie as tie

@@ -2,7 +2,7 @@
 -- left in the set. Assumes nothing.
 use Prim.Native.Nat.{_<_}
 use lib.ListN.{length}
-use Rattle.layout.specs.Members.{membersOf}
+use Rattle.adjacency.specs.Members.{membersOf}
 use Rattle.reduction.proofs.ReturnLaws.{Seen, seen-none, seen-all, seen-more, met-small, met-there}
 use Rattle.reduction.proofs.putting_back.masks_near.Statement.{statement}
 use Rattle.reduction.proofs.putting_back.masks_near.Tie as tie

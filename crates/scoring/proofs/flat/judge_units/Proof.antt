@@ -7,7 +7,7 @@ use borrow.Author.Tests.{eq-eqb, ne-eqb}
 use lib.ListN.{length, getD}
 use Rattle.rules.specs.Questions.{done, askEach}
 use Rattle.rules.proofs.Outcomes.{each-next, each-refused}
-use Rattle.layout.specs.UnitGraph.{unitAt}
+use Rattle.adjacency.specs.UnitGraph.{unitAt}
 use Rattle.scoring.specs.ScoreWords.{unitQuestion}
 use Rattle.scoring.proofs.flat.judge_units.Statement.{statement}
 use Rattle.scoring.proofs.flat.judge_units.Tie as tie

@@ -6,8 +6,8 @@ use mathlib.Core.Path.{ap₂, subst, _∙_}
 use Prim.Native.Nat.{ℕ, _<_}
 use lib.ListN.{length}
 use Rattle.bitset.specs.Bits.{hasEdge, First}
-use Rattle.layout.specs.Members.{membersOf}
-use Rattle.layout.proofs.MemberLaws.{members-fewer}
+use Rattle.adjacency.specs.Members.{membersOf}
+use Rattle.adjacency.proofs.MemberLaws.{members-fewer}
 use Rattle.units.specs.Steps.{twoUnits}
 use Rattle.units.proofs.MergeLaws.{MergingRow, row-none, row-met, row-before, row-next, row-all}
 use Rattle.units.proofs.merging.merge_row.Statement.{statement}

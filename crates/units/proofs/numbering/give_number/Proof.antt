@@ -5,8 +5,8 @@ use mathlib.Core.Path.{subst, subst⁻¹}
 use Prim.Native.Nat.{ℕ, _<_}
 use lib.ListN.{length}
 use Rattle.bitset.specs.Bits.{First}
-use Rattle.layout.specs.Members.{membersOf}
-use Rattle.layout.proofs.MemberLaws.{members-fewer}
+use Rattle.adjacency.specs.Members.{membersOf}
+use Rattle.adjacency.proofs.MemberLaws.{members-fewer}
 use Rattle.units.proofs.NumberLaws.{Giving, giving-none, giving-next, giving-all}
 use Rattle.units.proofs.numbering.give_number.Statement.{statement}
 use Rattle.units.proofs.numbering.give_number.Tie as tie

@@ -4,7 +4,7 @@ use mathlib.Core.Path.{subst}
 use Prim.Native.Nat.{_<_}
 use lib.ListN.{length}
 use Rattle.bitset.specs.Bits.{First}
-use Rattle.layout.specs.Members.{membersOf}
+use Rattle.adjacency.specs.Members.{membersOf}
 use Rattle.components.proofs.Taking.{fewer-left}
 use Rattle.units.proofs.NumberLaws.{Numbering, numbering-none, numbering-next, numbering-all}
 use Rattle.units.proofs.numbering.number_units.Statement.{statement}

@@ -14,7 +14,7 @@ use borrow.Author.Tests.{eq-eqb, ne-eqb, eqb-true, lt-ltb, le-ltb}
 use Rattle.bitset.specs.Bits.{member, hasEdge}
 use Rattle.bitset.proofs.Sets.{member-none}
 use Rattle.rules.specs.Basics.{given}
-use Rattle.layout.specs.Adjacency.{isPair, inRow, RowTo, Holds}
+use Rattle.adjacency.specs.Adjacency.{isPair, inRow, RowTo, Holds}
 use Rattle.rules.proofs.Tests.{and-left, and-right, or-either, same, same-where, ltb-next}
 
 -- ---- a pair, by its lesser and its greater number

@@ -14,7 +14,7 @@ use Rattle.bitset.proofs.Rising.{least-le}
 use Rattle.rules.specs.Basics.{upFrom, upTo, keep, occurs, without}
 use Rattle.rules.proofs.Lists.{_∈_, here, here-or-later, none-in, occurs-in, in-keep, keep-in, keep-same, keep-keep, keep-none, keep-no-longer, in-upTo, upTo-distinct, upTo-rising, length-upTo, distinct-keep, rising-keep, rising-distinct, without-head, without-shorter, Distinct, Rising}
 use Rattle.rules.proofs.Tests.{by-test, both, or-either, same, eqb-sym}
-use Rattle.layout.specs.Members.{membersOf}
+use Rattle.adjacency.specs.Members.{membersOf}
 
 -- ---- who is a member
 

@@ -1,5 +1,6 @@
-// The adjacency words of a judged layer: a bit for each pair of pieces, in words for each kind of edge and for ties. Each
-// unordered pair is met once, from its greater number, and both of its bits are set.
+// The adjacency words of a judged layer (RULES 2): a bit for each pair of pieces, in words for each kind of edge and for ties. Each
+// unordered pair is met once, from its greater number, and both of its bits are set. Units, scoring, peeling and the search stand
+// on these words.
 ghost use mathlib.Core.Bool.{true, _&&_, _||_};
 ghost use mathlib.Core.Path.{_≡_};
 ghost use Prim.Native.Nat.{ℕ, _<_, _≤_};
@@ -7,12 +8,12 @@ ghost use lib.ListN.{replicate};
 ghost use Rattle.bitset.specs.Bits.{hasEdge};
 ghost use Rattle.rules.specs.Settings.{settingsInRange, pieceInRange};
 ghost use Rattle.rules.specs.Questions.{Valid};
 ghost use Rattle.layout.specs.Flat.{pieceOf, piecesOf};
-ghost use Rattle.layout.specs.Adjacency.{conflictOf, stitchOf, tieOf, isPair, RowTo, Adjacency, Ties};
-use crate::edges::conflict;
-use crate::edges::stitch;
-use crate::edges::tie;
-use crate::flat::piece_at;
+ghost use Rattle.adjacency.specs.Adjacency.{conflictOf, stitchOf, tieOf, isPair, RowTo, Adjacency, Ties};
+use layout::conflict;
+use layout::piece_at;
+use layout::stitch;
+use layout::tie;
 use rules::Settings;
 
 // Sets every word to 0.

@@ -5,13 +5,13 @@ use Prim.Native.Nat.{ℕ, _≤_, _<_, _-_}
 use native.Mathlib.Omega.{arith}
 use Rattle.rules.specs.Settings.{pieceAt}
 use Rattle.rules.specs.Edges.{conflictEdge, stitchEdge, tied}
 use Rattle.layout.specs.Flat.{pieceOf, piecesOf}
-use Rattle.layout.specs.Adjacency.{conflictOf, stitchOf, tieOf}
+use Rattle.adjacency.specs.Adjacency.{conflictOf, stitchOf, tieOf}
 use Rattle.layout.proofs.PieceLaws.{piece-of, valid-flat}
 use Rattle.rules.proofs.Edges.{no-self-conflict, no-self-stitch, no-self-tie}
-use Rattle.layout.proofs.AdjacencyLaws.{Rows, rows-none, rows-more, rows-hold}
-use Rattle.layout.proofs.adjacency.adjacency_words.Statement.{statement}
-use Rattle.layout.proofs.adjacency.adjacency_words.Tie as tie
+use Rattle.adjacency.proofs.AdjacencyLaws.{Rows, rows-none, rows-more, rows-hold}
+use Rattle.adjacency.proofs.adjacency_words.Statement.{statement}
+use Rattle.adjacency.proofs.adjacency_words.Tie as tie
 
 abbrev Inv-loop : tie.InvT-loop
 Inv-loop settings flat n conflicts₀ stitches₀ ties₀ j₀ conflicts stitches ties j =

@@ -4,7 +4,7 @@ use Prim.Native.Nat.{ℕ}
 use lib.ListN.{getD}
 use Rattle.rules.specs.Edges.{Graph}
 use Rattle.rules.specs.Units.{mergedGraph}
-use Rattle.layout.specs.Adjacency.{wordGraph}
+use Rattle.adjacency.specs.Adjacency.{wordGraph}
 
 -- the unit of piece i
 abbrev pub unitAt : List ℕ → ℕ → ℕ

@@ -3,11 +3,11 @@ use borrow.Author.Needs.{needs}
 use mathlib.Core.Path.{_≡_}
 use Prim.Native.Nat.{_≤_, _-_}
 use native.Mathlib.Omega.{arith}
-use Rattle.layout.specs.Adjacency.{conflictOf, stitchOf, tieOf, RowTo}
+use Rattle.adjacency.specs.Adjacency.{conflictOf, stitchOf, tieOf, RowTo}
 use Rattle.rules.proofs.Edges.{conflict-sym, stitch-sym, tie-sym}
-use Rattle.layout.proofs.AdjacencyLaws.{row-none, row-more}
-use Rattle.layout.proofs.adjacency.adjacency_row.Statement.{statement}
-use Rattle.layout.proofs.adjacency.adjacency_row.Tie as tie
+use Rattle.adjacency.proofs.AdjacencyLaws.{row-none, row-more}
+use Rattle.adjacency.proofs.adjacency_row.Statement.{statement}
+use Rattle.adjacency.proofs.adjacency_row.Tie as tie
 
 abbrev Inv-loop : tie.InvT-loop
 Inv-loop settings flat j conflicts₀ stitches₀ ties₀ p i₀ conflicts stitches ties i =

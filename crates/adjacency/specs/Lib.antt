@@ -1,0 +1,3 @@
+pub mod Adjacency
+pub mod UnitGraph
+pub mod Members
