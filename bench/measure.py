@@ -1,5 +1,4 @@
 """Processor times. Unlike the time on the clock, they leave out the time in which other processes have the processor."""
-import math
 import pathlib
 import resource
 import subprocess
@@ -35,12 +34,15 @@ def reference(text):
 
 def run(text):
     """The result of the proved run on a layer text, by its keys, and the seconds from the text to the result text. A short run is repeated
-    in one process."""
+    in one process, so often that the start of the process does not count."""
     printed, seconds = stages(PRINTED, 1, text)
     result = dict(line.split("=") for line in printed.splitlines())
     if seconds < 0.02:
-        repeats = math.ceil(0.05 / max(seconds, 0.0001))
-        seconds = min(stages(WRITTEN, repeats, text)[1] for _ in range(3)) / repeats
+        repeats = 1
+        while seconds < 0.05:
+            repeats *= 4
+            seconds = stages(WRITTEN, repeats, text)[1]
+        seconds = min([seconds] + [stages(WRITTEN, repeats, text)[1] for _ in range(2)]) / repeats
     return result, seconds
 
 
