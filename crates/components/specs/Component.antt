@@ -3,7 +3,7 @@ use mathlib.Core.Bool.{true}
 use mathlib.Core.List.{List, _∷_}
 use mathlib.Core.Path.{_≡_}
 use Prim.Native.Nat.{ℕ, _<_}
-use Rattle.bitset.specs.Bits.{member, hasEdge}
+use Rattle.bitset.specs.Bits.{member}
 use Rattle.rules.specs.Components.{componentOf}
 use Rattle.adjacency.specs.Adjacency.{wordGraph}
 use Rattle.adjacency.specs.Members.{membersOf}

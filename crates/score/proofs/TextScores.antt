@@ -1,13 +1,13 @@
 -- The score of masks on the layer of a text: from the layer that was read, and by masks in place of the numbers that they are handed on for. Assumes nothing.
 use mathlib.Core.Bool.{true}
 use mathlib.Core.List.{List, map}
-use mathlib.Core.Path.{_≡_, refl, sym, ap, ap₂, _∙_}
+use mathlib.Core.Path.{_≡_, sym, ap, ap₂, _∙_}
 use Prim.Native.Nat.{ℕ, _≤_, _<_, min}
 use native.Mathlib.Omega.{arith}
 use lib.Dec.{eqb, leb, ltb}
 use lib.ListN.{length, getD, take, length-take, length-map, List·getD-map}
 use lib.Seq.{getD-take, ext-getD}
-use borrow.Author.Tests.{eqb-true, eq-eqb, ltb-true, le-ltb, leb-true, leb-false, le-leb}
+use borrow.Author.Tests.{eqb-true, eq-eqb, ltb-true, le-ltb, leb-false, le-leb}
 use Rattle.rules.specs.declared.layer.Settings.{Settings}
 use Rattle.rules.specs.declared.layer.Piece.{Piece}
 use Rattle.rules.specs.declared.refusal.Place.{Place}
@@ -16,7 +16,7 @@ use Rattle.rules.specs.declared.answers.ScoreAnswer.{ScoreAnswer}
 use Rattle.rules.specs.Answers.{scoreAnswer}
 use Rattle.rules.specs.Calls.{scoreMasks}
 use Rattle.rules.specs.Edges.{graphOf}
-use Rattle.rules.specs.Questions.{Outcome, done, refused, ask, andThen, askEach, Valid, judgeLayer, readLayer}
+use Rattle.rules.specs.Questions.{Outcome, done, ask, andThen, askEach, Valid, judgeLayer, readLayer}
 use Rattle.rules.specs.Score.{sameMask, scoreOf}
 use Rattle.rules.specs.Units.{unitOf}
 use Rattle.rules.proofs.Outcomes.{accepted, ends-ask, ends-each, each-ext, ask-yes, then-same}

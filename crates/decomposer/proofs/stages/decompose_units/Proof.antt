@@ -1,8 +1,6 @@
 -- `decompose_units`: each stage may be called where the one before it ended, and together they are what the rules reach on the units. Assumes nothing.
 use borrow.Author.Needs.{needs}
-use mathlib.Core.Path.{_≡_}
 use native.Mathlib.Omega.{arith}
-use lib.ListN.{length, replicate}
 use Rattle.rules.proofs.Ranges.{settings-facts}
 use Rattle.decomposer.proofs.StageLaws.{core-places, may-return, may-be-joined, all-decomposed}
 use Rattle.decomposer.proofs.stages.decompose_units.Statement.{statement}

@@ -1,10 +1,9 @@
 -- `judge_units`. The invariant: all pieces before i have the masks of their units. Assumes nothing.
-use borrow.Author.Needs.{needs}
 use mathlib.Core.Path.{_≡_, refl, sym}
 use Prim.Native.Nat.{_-_, _≤_}
 use native.Mathlib.Omega.{arith}
 use borrow.Author.Tests.{eq-eqb, ne-eqb}
-use lib.ListN.{length, getD}
+use lib.ListN.{length}
 use Rattle.rules.specs.Questions.{done, askEach}
 use Rattle.rules.proofs.Outcomes.{each-next, each-refused}
 use Rattle.adjacency.specs.UnitGraph.{unitAt}
