@@ -7,7 +7,7 @@ ghost use Rattle.adjacency.specs.UnitGraph.{unitAt};
 ghost use Rattle.places.specs.Chains.{Chain, Linked, Seated};
 
 // Stores a number.
-fn note(numbers: &mut [u16; 512], at: usize, x: u16)
+pub fn note(numbers: &mut [u16; 512], at: usize, x: u16)
     requires { ⌜ at < 512 ⌝ }
     ensures { λ _. ⌜ now (numbers .exit) ≡ set (now (numbers .entry)) at x ⌝ }
 {

@@ -1,19 +1,10 @@
 // From vertices to places and back.
 ghost use mathlib.Core.Path.{_≡_};
 ghost use Prim.Native.Nat.{ℕ, _≤_, _<_};
-ghost use lib.ListN.{length, getD, take, set};
+ghost use lib.ListN.{length, getD, take};
 ghost use Rattle.rules.specs.Decomposition.{putMasks};
 ghost use Rattle.places.specs.Order.{Ordered};
-
-// Stores a vertex at a place.
-fn seat(order: &mut [u16; 512], at: usize, vertex: usize)
-    requires { ⌜ at < 512 ⌝ }
-    requires { ⌜ vertex < 512 ⌝ }
-    ensures { λ _. ⌜ now (order .exit) ≡ set (now (order .entry)) at vertex ⌝ }
-{
-    let all: &mut [u16] = order;
-    all[at] = vertex as u16;
-}
+use crate::chains::note;
 
 // Stores the members of a set in rising order, and answers how many there are.
 pub fn list_members(members: &[u64; 8], order: &mut [u16; 512]) -> usize
@@ -27,7 +18,7 @@ pub fn list_members(members: &[u64; 8], order: &mut [u16; 512]) -> usize
         if v == 512 {
             break;
         }
-        seat(order, count, v);
+        note(order, count, v as u16);
         bitset::take_out(&mut rest, v);
         count += 1;
     }

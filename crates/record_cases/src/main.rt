@@ -1,194 +1,35 @@
 // Runs the calls on lent records, and reports of each case whether it came out as stated in RULES 11 to 13 and 17: worked cases, and refusals,
 // after which lent memory must be as it was.
-ghost use Prim.Native.Nat.{_≤_, _<_};
+ghost use Prim.Native.Nat.{_≤_};
 
+mod layers;
 mod lent;
+mod outcomes;
 
+use crate::layers::FAR;
+use crate::layers::OUTSIDE;
+use crate::layers::OVERLAP;
+use crate::layers::ROW;
+use crate::layers::THIN;
+use crate::layers::TIED;
+use crate::layers::WIRE;
+use crate::layers::records_of;
+use crate::outcomes::best;
+use crate::outcomes::of_refusal;
+use crate::outcomes::of_run;
+use crate::outcomes::of_score;
+use crate::outcomes::refused;
+use crate::outcomes::report;
+use crate::outcomes::scored;
+use crate::outcomes::with_memory;
+use crate::outcomes::written;
 use libc::STDIN_FILENO;
-use libc::STDOUT_FILENO;
 use rules::DecomposeAnswer;
-use rules::Decomposition;
-use rules::Piece;
-use rules::Place;
-use rules::Refusal;
-use rules::Score;
 use rules::ScoreAnswer;
 use rules::Settings;
-use rules::Verdict;
 use rules::WriteAnswer;
 
-// ---- the layers, by numbers; each is an array of more records than a case lends
-
-// The three squares of RULES 9; those with a piece of no width, one out of range, or one that overlaps; a wire in halves with a piece
-// beside each; squares far apart; and two tied pieces with two neighbours.
-const ROW: u32 = 0;
-
-const THIN: u32 = 1;
-
-const OUTSIDE: u32 = 2;
-
-const OVERLAP: u32 = 3;
-
-const WIRE: u32 = 4;
-
-const FAR: u32 = 5;
-
-const TIED: u32 = 6;
-
-fn piece(shape: u32, x1: u32, y1: u32, x2: u32, y2: u32) -> Piece {
-    Piece {
-        shape: shape,
-        x1: x1,
-        y1: y1,
-        x2: x2,
-        y2: y2,
-    }
-}
-
-fn row() -> [Piece; 513] {
-    let mut all = [piece(0, 0, 0, 20, 20); 513];
-    all[1] = piece(1, 40, 0, 60, 20);
-    all[2] = piece(2, 80, 0, 100, 20);
-    all
-}
-
-fn thin() -> [Piece; 513] {
-    let mut all = row();
-    all[1] = piece(1, 40, 0, 40, 20);
-    all
-}
-
-fn outside() -> [Piece; 513] {
-    let mut all = row();
-    all[2] = piece(2, 80, 0, 1_000_001, 20);
-    all
-}
-
-fn overlap() -> [Piece; 513] {
-    let mut all = row();
-    all[2] = piece(0, 10, 10, 30, 30);
-    all
-}
-
-fn wire() -> [Piece; 513] {
-    let mut all = [piece(0, 100, 0, 200, 20); 513];
-    all[1] = piece(0, 200, 0, 300, 20);
-    all[2] = piece(1, 100, 90, 161, 110);
-    all[3] = piece(2, 239, 90, 300, 110);
-    all
-}
-
-fn tied() -> [Piece; 513] {
-    let mut all = [piece(0, 0, 0, 20, 20); 513];
-    all[1] = piece(0, 20, 11, 40, 31);
-    all[2] = piece(1, 10, 60, 30, 80);
-    all[3] = piece(2, 60, 60, 80, 80);
-    all
-}
-
-// A square of a grid with 32 in a row.
-fn far_square(i: u32) -> Piece
-    requires { ⌜ i < 512 ⌝ }
-{
-    let x = 2000 * (i % 32);
-    let y = 2000 * (i / 32);
-    piece(i, x, y, x + 20, y + 20)
-}
-
-// 512 such squares, and one record more.
-fn far() -> [Piece; 513] {
-    let mut all = [piece(0, 0, 0, 20, 20); 513];
-    let mut i = 0;
-    while i < 512 {
-        all[i] = far_square(i as u32);
-        i += 1;
-    }
-    all
-}
-
-// The records of a layer.
-fn records_of(layer: u32) -> [Piece; 513] {
-    if layer == THIN {
-        return thin();
-    }
-    if layer == OUTSIDE {
-        return outside();
-    }
-    if layer == OVERLAP {
-        return overlap();
-    }
-    if layer == WIRE {
-        return wire();
-    }
-    if layer == FAR {
-        return far();
-    }
-    if layer == TIED {
-        return tied();
-    }
-    row()
-}
-
-// ---- what a call on the first n records of a layer comes to
-//
-// Eight numbers: the refusal's number and place; conflicts, stitches and cost; steps, or the length of a text; 1 where the run is best; and
-// 1 where lent memory is not as it must be. What a call does not give is 0.
-
-fn refused(number: u64, place: u64) -> [u64; 8] {
-    [number, place, 0, 0, 0, 0, 0, 0]
-}
-
-fn scored(conflicts: u64, stitches: u64, cost: u64) -> [u64; 8] {
-    [0, 0, conflicts, stitches, cost, 0, 0, 0]
-}
-
-fn best(conflicts: u64, stitches: u64, cost: u64, steps: u64) -> [u64; 8] {
-    [0, 0, conflicts, stitches, cost, steps, 1, 0]
-}
-
-fn written(size: usize) -> [u64; 8] {
-    [0, 0, 0, 0, 0, size as u64, 0, 0]
-}
-
-// The outcome, with whether lent memory is as it must be.
-fn with_memory(came: [u64; 8], same: bool) -> [u64; 8] {
-    let mut all = came;
-    all[7] = !same as u64;
-    all
-}
-
-fn of_refusal(refusal: Refusal, place: Place) -> [u64; 8] {
-    refused(refusal.number() as u64, place.number() as u64)
-}
-
-fn of_score(score: Score) -> [u64; 8] {
-    scored(
-        score.conflicts as u64,
-        score.stitches as u64,
-        score.cost as u64,
-    )
-}
-
-fn of_verdict(verdict: Verdict) -> u64 {
-    match verdict {
-        Verdict::Best => 1,
-        Verdict::Open => 0,
-    }
-}
-
-fn of_run(run: Decomposition) -> [u64; 8] {
-    let verdict = run.verdict;
-    [
-        0,
-        0,
-        run.conflicts as u64,
-        run.stitches as u64,
-        run.cost as u64,
-        run.steps as u64,
-        of_verdict(verdict),
-        0,
-    ]
-}
+// ---- the calls on the first n records of a layer
 
 fn settings(k: u32) -> Settings {
     Settings {
@@ -224,49 +65,6 @@ fn write_outcome(layer: u32, n: usize, buffer: &mut [u8]) -> [u64; 8]
     match lent::write_layer(settings(2), records_of(layer), n, buffer) {
         WriteAnswer::Written(size) => written(size),
         WriteAnswer::Refused(refusal, place) => of_refusal(refusal, place),
-    }
-}
-
-// ---- how a case came out
-
-fn print(text: &[u8]) {
-    io::write_all(STDOUT_FILENO, text);
-}
-
-fn print_next(n: u64) {
-    print(b" ");
-    io::print_decimal(STDOUT_FILENO, n);
-}
-
-// Whether two outcomes have the same numbers.
-fn is_outcome(came: [u64; 8], wanted: [u64; 8]) -> bool {
-    let mut i = 0;
-    while i < 8 {
-        if came[i] != wanted[i] {
-            return false;
-        }
-        i += 1;
-    }
-    true
-}
-
-fn print_numbers(came: [u64; 8]) {
-    let mut i = 0;
-    while i < 8 {
-        print_next(came[i]);
-        i += 1;
-    }
-}
-
-// How a case came out: a line with its name, and what came instead where it is not what the rules state.
-fn report(name: &[u8], came: [u64; 8], wanted: [u64; 8]) {
-    print(name);
-    if is_outcome(came, wanted) {
-        print(b": as stated\n");
-    } else {
-        print(b": DIFFERS:");
-        print_numbers(came);
-        print(b"\n");
     }
 }
 

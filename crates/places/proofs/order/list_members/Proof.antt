@@ -28,8 +28,11 @@ loop-holds c = ordering-none (c .before .args .members .now) (c .before .args .o
 lowest-requires : tie.Need-lowest-requires Inv-loop μ-loop
 lowest-requires c κs = tt
 
-seat-requires : tie.Need-seat-requires Inv-loop μ-loop
-seat-requires c κs = (room (c .before), small (c .before))
+cast-note : tie.Need-cast-note Inv-loop μ-loop
+cast-note c = omega (arith, small (c .before))
+
+note-requires : tie.Need-note-requires Inv-loop μ-loop
+note-requires c κs = room (c .before)
 
 take-out-requires : tie.Need-take-out-requires Inv-loop μ-loop
 take-out-requires c κs = small (c .before .before .before)
@@ -47,7 +50,7 @@ loop-again c =
     let head = found .before .before in
     let start = head .before .before in
     let next = ordering-next (head .loop .inv) (found .lowest .result) (small (seated .before .before)) (found .lowest .ensures) (c .take-out .ensures) in
-    subst⁻¹ (λ (l : List ℕ). Ordering (start .args .members .now) (start .args .order .now) l (c .take-out .last .0) (head .loop .count + 1)) (seated .seat .ensures) next
+    subst⁻¹ (λ (l : List ℕ). Ordering (start .args .members .now) (start .args .order .now) l (c .take-out .last .0) (head .loop .count + 1)) (seated .note .ensures) next
 
 returns : tie.Need-returns Inv-loop μ-loop
 returns c =
@@ -62,7 +65,8 @@ list-members-spec =
     μ-loop
     loop-holds
     lowest-requires
-    seat-requires
+    cast-note
+    note-requires
     take-out-requires
     add-count
     loop-less

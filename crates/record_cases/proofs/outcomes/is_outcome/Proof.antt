@@ -2,8 +2,8 @@
 use borrow.Author.Needs.{needs}
 use Prim.Native.Nat.{_≤_, _-_}
 use native.Mathlib.Omega.{arith}
-use Rattle.record_cases.proofs.is_outcome.Statement.{statement}
-use Rattle.record_cases.proofs.is_outcome.Tie as tie
+use Rattle.record_cases.proofs.outcomes.is_outcome.Statement.{statement}
+use Rattle.record_cases.proofs.outcomes.is_outcome.Tie as tie
 
 abbrev Inv-loop : tie.InvT-loop
 Inv-loop came wanted i₀ i = i ≤ 8

@@ -2,8 +2,8 @@
 use borrow.Author.Needs.{needs}
 use Prim.Native.Nat.{_≤_, _-_}
 use native.Mathlib.Omega.{arith}
-use Rattle.record_cases.proofs.far.Statement.{statement}
-use Rattle.record_cases.proofs.far.Tie as tie
+use Rattle.record_cases.proofs.layers.far.Statement.{statement}
+use Rattle.record_cases.proofs.layers.far.Tie as tie
 
 abbrev Inv-loop : tie.InvT-loop
 Inv-loop all₀ i₀ all i = i ≤ 512
