@@ -13,8 +13,12 @@ use lib.ListN.{replicate}
 use borrow.Author.Tests.{eq-eqb, ne-eqb, eqb-true, lt-ltb, le-ltb}
 use Rattle.bitset.specs.Bits.{member, hasEdge}
 use Rattle.bitset.proofs.Sets.{member-none}
+use Rattle.rules.specs.declared.layer.Settings.{Settings}
+use Rattle.rules.specs.declared.layer.Piece.{Piece}
 use Rattle.rules.specs.Basics.{given}
-use Rattle.adjacency.specs.Adjacency.{isPair, inRow, RowTo, Holds}
+use Rattle.rules.specs.Edges.{graphOf}
+use Rattle.adjacency.specs.Adjacency.{isPair, inRow, RowTo, Holds, Adjacency, BothWays}
+use Rattle.rules.proofs.Edges.{undirected}
 use Rattle.rules.proofs.Tests.{and-left, and-right, or-either, same, same-where, ltb-next}
 
 -- ---- a pair, by its lesser and its greater number
@@ -157,3 +161,12 @@ words-exclusive {edges} {others} {n} {words} {otherWords} holds other exclusive 
     let small : k < 512 = omega arith in
     let set : (ltb r n && ltb k n && ltb 0 (edges r k)) ≡ true = sym (holds .bits r k small) ∙ sym (folded words a b) ∙ e in
     folded otherWords a b ∙ other .bits r k small ∙ rw (exclusive r k (and-right (ltb r n && ltb k n) (ltb 0 (edges r k)) set)) (and-false (ltb r n && ltb k n))
+
+-- ---- the words of a layer
+
+module _ {s : Settings} {ps : List Piece} {n : ℕ} {conflicts stitches : List ℕ} (adjacency : Adjacency s ps n conflicts stitches) where
+  pub conflicts-both-ways : BothWays conflicts
+  conflicts-both-ways = words-symmetric (graphOf s ps .conflicts) n conflicts (adjacency .conflicts) (undirected s ps .conflicts)
+
+  pub stitches-both-ways : BothWays stitches
+  stitches-both-ways = words-symmetric (graphOf s ps .stitches) n stitches (adjacency .stitches) (undirected s ps .stitches)

@@ -1,4 +1,4 @@
--- What the adjacency words of a layer say: they join both ways, no pair by both kinds, and their graph has the layer's edges between its pieces.
+-- What the adjacency words of a layer say: they join no pair by both kinds, and their graph has the layer's edges between its pieces.
 -- Assumes nothing.
 use mathlib.Core.List.{List}
 use mathlib.Core.Path.{sym, _∙_}
@@ -8,21 +8,15 @@ use Rattle.rules.specs.declared.layer.Piece.{Piece}
 use Rattle.rules.specs.Basics.{upTo}
 use Rattle.rules.specs.Settings.{pieceAt}
 use Rattle.rules.specs.Edges.{conflictEdge, stitchEdge, graphOf}
-use Rattle.rules.proofs.Edges.{undirected, one-kind}
+use Rattle.rules.proofs.Edges.{one-kind}
 use Rattle.rules.proofs.Lists.{in-upTo}
 use Rattle.rules.proofs.Tests.{by-test}
-use Rattle.adjacency.specs.Adjacency.{Adjacency, wordGraph, BothWays}
-use Rattle.adjacency.proofs.AdjacencyLaws.{given-test, words-symmetric, words-edges, words-exclusive}
+use Rattle.adjacency.specs.Adjacency.{Adjacency, wordGraph}
+use Rattle.adjacency.proofs.AdjacencyLaws.{given-test, words-edges, words-exclusive}
 use Rattle.places.specs.LaidOut.{Exclusive}
 use Rattle.theory.proofs.SameEdges.{SameEdges}
 
 module _ {s : Settings} {ps : List Piece} {n : ℕ} {conflicts stitches : List ℕ} (adjacency : Adjacency s ps n conflicts stitches) where
-  pub conflicts-both-ways : BothWays conflicts
-  conflicts-both-ways = words-symmetric (graphOf s ps .conflicts) n conflicts (adjacency .conflicts) (undirected s ps .conflicts)
-
-  pub stitches-both-ways : BothWays stitches
-  stitches-both-ways = words-symmetric (graphOf s ps .stitches) n stitches (adjacency .stitches) (undirected s ps .stitches)
-
   pub one-kind-each : Exclusive conflicts stitches
   one-kind-each =
       words-exclusive (adjacency .conflicts) (adjacency .stitches) λ a b e.

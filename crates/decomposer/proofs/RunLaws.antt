@@ -32,7 +32,8 @@ use Rattle.theory.proofs.SameEdges.{SameEdges, decompose-same}
 use Rattle.theory.proofs.Demand3.{demand3}
 use Rattle.decomposer.specs.declared.stages.Searched.{Searched}
 use Rattle.decomposer.specs.Stages.{HasPlaces, reachedOf, Decomposed}
-use Rattle.decomposer.proofs.LayerWords.{conflicts-both-ways, stitches-both-ways, one-kind-each, layer-edges}
+use Rattle.adjacency.proofs.AdjacencyLaws.{conflicts-both-ways, stitches-both-ways}
+use Rattle.decomposer.proofs.LayerWords.{one-kind-each, layer-edges}
 
 module _ (s : Settings) (flat : List ℕ) (n : ℕ) (valid : Valid s (piecesOf flat n)) where
   abbrev ps : List Piece

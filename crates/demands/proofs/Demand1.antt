@@ -9,7 +9,6 @@ use Rattle.rules.proofs.Reading.{read-ends}
 use Rattle.stream_theory.proofs.StreamReading.{stream-ends}
 use Rattle.rules.proofs.Validity.{sound-valid, valid-sound}
 use Rattle.text.proofs.LayerSizes.{layer-length}
-use Rattle.theory.proofs.Units.{unit-first}
 use Rattle.theory.proofs.Demand3.{one-run}
 use Rattle.demands.proofs.ResultSizes.{result-fits}
 
@@ -17,7 +16,7 @@ pub demand1 : Demand1
 demand1 = record {
   settings = settings-end;
   edge = edge-ends;
-  score = score-ends unit-first;
+  score = score-ends;
   decompose = decompose-ends (λ s ps r. Assignment s ps (r .masks)) (λ s ps valid. one-run s ps valid .whole);
   read = λ text. ends-map (λ l f. sound-valid (l .settings) (l .pieces) f) (read-ends text);
   stream = λ settings stream. ends-map (λ l f. sound-valid (l .settings) (l .pieces) f) (stream-ends settings stream);

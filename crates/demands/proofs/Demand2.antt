@@ -1,11 +1,14 @@
--- Demand 2: edges are those of the rules' distances, counts and cost are those of the masks, a layer text reads as the one layer that it states, and
+-- Demand 2: edges are those of the rules' distances, masks are scored while they are half done, counts and cost are those of the masks, a layer text reads as the one layer that it states, and
 -- a layer that was written is read back unchanged. Hence two different valid layers never have the same text. Assumes nothing.
 use mathlib.Core.Path.{_≡_, sym, ap, _∙_}
+use lib.ListN.{length}
 use Rattle.rules.specs.LayerText.{layerText}
 use Rattle.rules.specs.Questions.{Outcome, done, refused, Valid, Layer, readLayer}
+use Rattle.rules.specs.Edges.{graphOf}
 use Rattle.rules.specs.Demands.{Demand2}
 use Rattle.rules.proofs.Calls.{decompose-counts}
-use Rattle.theory.proofs.Assignments.{scored-exactly}
+use Rattle.theory.proofs.Assignments.{scored-exactly, whole-counts}
+use Rattle.theory.proofs.HalfDone.{more-score}
 use Rattle.rules.proofs.Edges.{conflict-exactly, stitch-exactly, tie-exactly, conflicts-exactly, stitches-exactly}
 use Rattle.text.proofs.WrittenLayers.{read-states, reads-back}
 
@@ -17,6 +20,8 @@ demand2 = record {
   conflicts = conflicts-exactly;
   stitches = stitches-exactly;
   scored = scored-exactly;
+  whole = λ s ps masks valid. whole-counts s ps valid masks;
+  more = λ s ps. more-score (s .weight) (graphOf s ps) (length ps);
   counts = decompose-counts;
   asStated = λ text l. (read-states text l, λ st. ap readLayer (st .written) ∙ reads-back l (st .valid));
   readsBack = reads-back;

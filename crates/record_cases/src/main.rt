@@ -70,13 +70,13 @@ fn write_outcome(layer: u32, n: usize, buffer: &mut [u8]) -> [u64; 8]
 
 // ---- a call, and what it is to come to
 
-// A mask list: the first four masks are hexadecimal digits, and the others are alike.
-fn list(digits: u32, others: u8) -> [u8; 513] {
+// A mask list: the first four masks are the bytes of a number, and the others are alike.
+fn list(bytes: u32, others: u8) -> [u8; 513] {
     let mut masks = [others; 513];
-    masks[0] = (digits / 4096 % 16) as u8;
-    masks[1] = (digits / 256 % 16) as u8;
-    masks[2] = (digits / 16 % 16) as u8;
-    masks[3] = (digits % 16) as u8;
+    masks[0] = (bytes / 16_777_216 % 256) as u8;
+    masks[1] = (bytes / 65_536 % 256) as u8;
+    masks[2] = (bytes / 256 % 256) as u8;
+    masks[3] = (bytes % 256) as u8;
     masks
 }
 
@@ -121,10 +121,10 @@ fn decompose_refused(name: &[u8], layer: u32, k: u32, n: usize, m: u32, number: 
 }
 
 // Scores n records of a layer on two masks, with a list of m masks.
-fn score(name: &[u8], layer: u32, n: usize, m: u32, digits: u32, wanted: [u64; 8])
+fn score(name: &[u8], layer: u32, n: usize, m: u32, bytes: u32, wanted: [u64; 8])
     requires { ⌜ n ≤ 513 ⌝ }
 {
-    let masks = list(digits, 0);
+    let masks = list(bytes, 0);
     let size = io::count(m as isize, &masks);
     report(name, score_outcome(layer, n, &masks[..size]), wanted);
 }
@@ -164,7 +164,7 @@ fn results() {
         2,
         3,
         3,
-        list(0x0100, 9),
+        list(0x00010000, 9),
         best(1, 0, 10, 5),
     );
     decompose(
@@ -182,7 +182,7 @@ fn results() {
         2,
         4,
         4,
-        list(0x0011, 9),
+        list(0x00000101, 9),
         best(1, 0, 10, 5),
     );
 }
@@ -193,7 +193,7 @@ fn scores() {
         ROW,
         3,
         3,
-        0x0100,
+        0x00010000,
         scored(1, 0, 10),
     );
     score(
@@ -201,7 +201,7 @@ fn scores() {
         ROW,
         3,
         3,
-        0x1110,
+        0x01010100,
         scored(3, 0, 30),
     );
     score(
@@ -209,8 +209,35 @@ fn scores() {
         WIRE,
         4,
         4,
-        0x0110,
+        0x00010100,
         scored(0, 1, 1),
+    );
+}
+
+fn half_done_scores() {
+    score(
+        b"score the row, piece 1 not set",
+        ROW,
+        3,
+        3,
+        0x00FF0000,
+        scored(1, 0, 10),
+    );
+    score(
+        b"score tied pieces, the lowest not set",
+        TIED,
+        4,
+        4,
+        0xFF010100,
+        scored(1, 0, 10),
+    );
+    score(
+        b"score the wire, nothing set",
+        WIRE,
+        4,
+        4,
+        0xFFFFFFFF,
+        scored(0, 0, 0),
     );
 }
 
@@ -236,15 +263,30 @@ fn bad_layers() {
 
 fn bad_scores() {
     score(b"score 513 records", FAR, 513, 513, 0, refused(4, 0));
-    score(b"score 2 masks", ROW, 3, 2, 0x0100, refused(7, 0));
-    score(b"score 4 masks", ROW, 3, 4, 0x0100, refused(7, 0));
-    score(b"piece 1 on mask 2 of 2", ROW, 3, 3, 0x0220, refused(8, 1));
+    score(b"score 2 masks", ROW, 3, 2, 0x00010000, refused(7, 0));
+    score(b"score 4 masks", ROW, 3, 4, 0x00010000, refused(7, 0));
+    score(
+        b"piece 1 on mask 2 of 2",
+        ROW,
+        3,
+        3,
+        0x00020200,
+        refused(8, 1),
+    );
+    score(
+        b"piece 1 on mask 254 of 2",
+        ROW,
+        3,
+        3,
+        0x00FE0000,
+        refused(8, 1),
+    );
     score(
         b"tied pieces on 0 and 1",
         TIED,
         4,
         4,
-        0x0111,
+        0x00010101,
         refused(12, 1),
     );
     score(
@@ -252,7 +294,7 @@ fn bad_scores() {
         TIED,
         4,
         4,
-        0x0112,
+        0x00010102,
         refused(8, 3),
     );
 }
@@ -265,6 +307,7 @@ fn bad_texts() {
 fn main() {
     results();
     scores();
+    half_done_scores();
     text();
     bad_layers();
     bad_scores();

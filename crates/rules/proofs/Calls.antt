@@ -1,20 +1,20 @@
 -- What each public call can refuse, by number and place: the questions that it asks and no others; and the loader's number, which gives number and place back.
 -- Assumes nothing.
-use mathlib.Core.Bool.{true}
+use mathlib.Core.Bool.{true, not, _&&_, _||_}
 use mathlib.Core.List.{List, [], _∷_}
-use mathlib.Core.Path.{_≡_, refl, sym, ap, subst}
+use mathlib.Core.Path.{_≡_, refl, ap, subst}
 use Prim.Native.Nat.{ℕ, zero, suc, _/_, _%_, _≤_, _<_}
 use native.Mathlib.Omega.{arith}
 use lib.Dec.{eqb, leb, ltb}
-use lib.ListN.{length, getD}
+use lib.ListN.{length}
 use borrow.Author.Tests.{leb-true, eq-eqb}
 use Rattle.rules.specs.declared.layer.Settings.{Settings}
 use Rattle.rules.specs.declared.layer.Piece.{Piece}
 use Rattle.rules.specs.declared.refusal.Place.{Place}
 use Rattle.rules.specs.Settings.{settingsInRange}
 use Rattle.rules.specs.Edges.{edgeOf}
-use Rattle.rules.specs.Score.{maskOf, sameMask}
-use Rattle.rules.specs.Units.{unitOf}
+use Rattle.rules.specs.Score.{maskOf, isSet}
+use Rattle.rules.specs.Units.{unitOf, fitsUnit}
 use Rattle.rules.specs.Decomposition.{Run, run}
 use Rattle.rules.specs.LayerText.{layerText}
 use Rattle.rules.specs.ResultText.{resultText}
@@ -23,6 +23,8 @@ use Rattle.rules.specs.Calls.{newSettings, edgeBetween, scoreMasks, deco
 use Rattle.rules.specs.Loader.{loaderNumber, placeFrom}
 use Rattle.rules.specs.Refusals.{Ends, accepts, OfSettings, setting, OfRecords, OfMaskList, records, mask-count, OfMasks, mask-list, mask-range, split, OfText, size, form, range, area, overlap, OfBuffer, buffer, given}
 use Rattle.rules.specs.Demands.{layerScore}
+use Rattle.rules.proofs.Tests.{by-test}
+use Rattle.rules.proofs.Finding.{find-upTo}
 use Rattle.rules.proofs.Outcomes.{ends-then, ends-ask, ends-each, ends-refused, then-with}
 use Rattle.rules.proofs.Validity.{Sound, sound-valid, judged}
 use Rattle.rules.proofs.Reading.{read-ends}
@@ -37,22 +39,27 @@ pub edge-ends : (s : Settings) (a b : Piece) → Ends (λ e. e ≡ edgeOf s a b)
 unfolding edgeBetween
 edge-ends s a b = ends-then (judged s (a ∷ b ∷ [])) λ _ _. accepts refl
 
--- 12 of piece i; the first piece has its own mask
-split-ends : (s : Settings) (ps : List Piece) (masks : List ℕ) → (0 < length ps → unitOf s ps 0 ≡ 0)
-    → (i : ℕ) → i < length ps → Ends (λ _. sameMask masks i (unitOf s ps i) ≡ true) (OfMasks (length ps)) (ask (sameMask masks i (unitOf s ps i)) 12 (Place.Piece i))
-split-ends s ps masks first zero h =
-    let same : sameMask masks 0 (unitOf s ps 0) ≡ true = eq-eqb (maskOf masks 0) (maskOf masks (unitOf s ps 0)) (ap (maskOf masks) (sym (first h))) in
-    rw same (accepts refl)
-split-ends s ps masks first (suc i) h = ends-ask (sameMask masks (suc i) (unitOf s ps (suc i))) 12 (Place.Piece (suc i)) (split (omega arith) h)
+-- the first piece is not set, or is the lowest set one of its unit
+first-fits : (unit : ℕ → ℕ) (n : ℕ) (masks : List ℕ) → 0 < n → fitsUnit unit n masks 0 ≡ true
+first-fits unit n masks h =
+    by-test (isSet masks 0)
+    (λ e.
+    let found = find-upTo (λ i. isSet masks i && eqb (unit i) (unit 0)) n 0 h (λ i l. absurd (omega arith)) (rw (e, eq-eqb (unit 0) (unit 0) refl)) in
+    rw (e, found, eq-eqb (maskOf masks 0) (maskOf masks 0) refl))
+    (λ e. rw e)
 
-pub score-ends : ((s : Settings) (ps : List Piece) → 0 < length ps → unitOf s ps 0 ≡ 0)
-    → (s : Settings) (ps : List Piece) (masks : List ℕ) → Ends (λ r. r ≡ layerScore s ps masks) (OfMasks (length ps)) (scoreMasks s ps masks)
+-- 12 of piece i
+split-ends : (unit : ℕ → ℕ) (n : ℕ) (masks : List ℕ) (i : ℕ) → i < n → Ends (λ _. fitsUnit unit n masks i ≡ true) (OfMasks n) (ask (fitsUnit unit n masks i) 12 (Place.Piece i))
+split-ends unit n masks zero h = rw (first-fits unit n masks h) (accepts refl)
+split-ends unit n masks (suc i) h = ends-ask (fitsUnit unit n masks (suc i)) 12 (Place.Piece (suc i)) (split (omega arith) h)
+
+pub score-ends : (s : Settings) (ps : List Piece) (masks : List ℕ) → Ends (λ r. r ≡ layerScore s ps masks) (OfMasks (length ps)) (scoreMasks s ps masks)
 unfolding scoreMasks
-score-ends first s ps masks =
+score-ends s ps masks =
     ends-then (ends-refused (λ _ _ r. mask-list (records r)) (judged s ps)) λ _ _.
     ends-then (ends-ask (eqb (length masks) (length ps)) 7 _ (mask-list mask-count)) λ _ _.
-    ends-then (ends-each _ (length ps) (λ i h. ends-ask (ltb (getD masks i 0) (s .masks)) 8 _ (mask-range h))) λ _ _.
-    ends-then (ends-each _ (length ps) (split-ends s ps masks (first s ps))) λ _ _.
+    ends-then (ends-each _ (length ps) (λ i h. ends-ask (not (isSet masks i) || ltb (maskOf masks i) (s .masks)) 8 _ (mask-range h))) λ _ _.
+    ends-then (ends-each _ (length ps) (split-ends (unitOf s ps) (length ps) masks)) λ _ _.
     accepts refl
 
 -- ---- Calls whose value is made of a valid layer

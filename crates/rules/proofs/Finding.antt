@@ -9,9 +9,9 @@ use Prim.Native.Nat.{ℕ, zero, suc, _+_, _≤_, _<_}
 use native.Mathlib.Omega.{arith}
 use lib.Dec.{eqb}
 use borrow.Author.Tests.{eqb-true, eqb-false}
-use Rattle.rules.specs.Basics.{upFrom, upTo, anyOf, keep, find, without}
+use Rattle.rules.specs.Basics.{upFrom, upTo, anyOf, keep, find, foundOr, without}
 use Rattle.rules.proofs.Lists.{_∈_, here, later, Same, any-in, in-any, in-upTo, without-in, without-or}
-use Rattle.rules.proofs.Tests.{by-test, or-either, same}
+use Rattle.rules.proofs.Tests.{by-test, clash, or-either, same}
 
 pub find-pass : (f : ℕ → Bool) (x : ℕ) (xs : List ℕ) → f x ≡ true → find f (x ∷ xs) ≡ some x
 unfolding find
@@ -34,6 +34,15 @@ find-same f h (x ∷ xs) e =
     let r : find f xs ≡ find h xs = find-same f h xs (λ u m. e u (later m)) in
     let q : f x ≡ h x = e x (here refl) in
     by-test (h x) (λ d. cc) (λ d. cc)
+
+-- where one passes, what is found is one of the list that passes
+pub find-one : (f : ℕ → Bool) (d : ℕ) (xs : List ℕ) → anyOf f xs ≡ true → (foundOr d (find f xs) ∈ xs) × (f (foundOr d (find f xs)) ≡ true)
+unfolding anyOf
+find-one f d [] e = clash e refl
+find-one f d (x ∷ xs) e =
+    by-test (f x)
+    (λ t. rw (find-pass f x xs t) (here refl, t))
+    (λ t. let r = find-one f d xs (rw t at e) in rw (find-fail f x xs t) (later (r .0), r .1))
 
 -- among those that pass another test
 pub find-keep : (f h : ℕ → Bool) (xs : List ℕ) → find h (keep f xs) ≡ find (λ u. f u && h u) xs

@@ -1,6 +1,7 @@
 -- What is proved of the definitions themselves.
 pub mod Cases
 pub mod TieCases
+pub mod HalfDoneCases
 pub mod Examples
 pub mod Tests
 pub mod Lists

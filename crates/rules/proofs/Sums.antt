@@ -1,11 +1,14 @@
--- Sums over the numbers below a bound, and over unordered pairs of them: one number more, terms that agree, and how large they get where
+-- Sums over the numbers below a bound, and over unordered pairs of them: one number more or less, terms that agree or grow, and how large they get where
 -- each term is at most 1. Assumes nothing.
-use mathlib.Core.Path.{_≡_, refl, ap₂}
+use mathlib.Core.Path.{_≡_, refl, sym, ap, ap₂}
 use Prim.Native.Nat.{ℕ, zero, suc, _+_, _*_, _≤_, _<_}
 use native.Mathlib.Nat.{mul-suc, suc-mul, mul-le-mul}
 use native.Mathlib.Numerals.{add-one}
 use native.Mathlib.Omega.{arith}
+use lib.Dec.{eqb}
+use borrow.Author.Tests.{eqb-true, eqb-false}
 use Rattle.rules.specs.Basics.{sumTo, sumPairs}
+use Rattle.rules.proofs.Tests.{by-test}
 
 pub sum-next : (f : ℕ → ℕ) (n : ℕ) → sumTo f (n + 1) ≡ sumTo f n + f n
 unfolding sumTo
@@ -15,6 +18,30 @@ pub sum-ext : {f g : ℕ → ℕ} (n : ℕ) → ((k : ℕ) → k < n → f k ≡
 unfolding sumTo
 sum-ext zero h = refl
 sum-ext (suc n) h = ap₂ (λ (x y : ℕ). x + y) (sum-ext n (λ k l. h k (omega arith))) (h n (omega arith))
+
+pub sum-mono : {f g : ℕ → ℕ} (n : ℕ) → ((k : ℕ) → k < n → f k ≤ g k) → sumTo f n ≤ sumTo g n
+unfolding sumTo
+sum-mono zero h = omega arith
+sum-mono (suc n) h = omega (arith, sum-mono n (λ k l. h k (omega arith)), h n (omega arith))
+
+-- g is f but for one number, where it is 0
+pub sum-less : {f g : ℕ → ℕ} (n i : ℕ) → i < n → g i ≡ 0 → ((k : ℕ) → (k ≡ i → ⊥) → g k ≡ f k) → sumTo f n ≡ sumTo g n + f i
+unfolding sumTo
+sum-less zero i l z h = absurd (omega arith)
+sum-less {f} {g} (suc n) i l z h =
+    by-test (eqb i n)
+    (λ e.
+    let q : i ≡ n = eqb-true i n e in
+    let rest : sumTo g n ≡ sumTo f n = sum-ext n (λ k b. h k (λ r. omega arith)) in
+    omega (arith, rest, z, ap g q, ap f q))
+    (λ e.
+    let ne = eqb-false i n e in
+    omega (arith, sum-less {f = f} {g = g} n i (omega arith) z h, h n (λ r. ne (sym r))))
+
+pub sum-none : {f : ℕ → ℕ} (n : ℕ) → ((k : ℕ) → k < n → f k ≡ 0) → sumTo f n ≡ 0
+unfolding sumTo
+sum-none zero h = refl
+sum-none (suc n) h = omega (arith, sum-none n (λ k l. h k (omega arith)), h n (omega arith))
 
 pub sum-le : (f : ℕ → ℕ) (n : ℕ) → ((k : ℕ) → f k ≤ 1) → sumTo f n ≤ n
 unfolding sumTo
@@ -28,6 +55,10 @@ pairs-next f n = sum-next _ n
 pub pairs-ext : {f g : ℕ → ℕ → ℕ} (n : ℕ) → ((u v : ℕ) → u < v → v < n → f u v ≡ g u v) → sumPairs f n ≡ sumPairs g n
 unfolding sumPairs
 pairs-ext n h = sum-ext n (λ v l. sum-ext v (λ u k. h u v k l))
+
+pub pairs-mono : {f g : ℕ → ℕ → ℕ} (n : ℕ) → ((u v : ℕ) → u < v → v < n → f u v ≤ g u v) → sumPairs f n ≤ sumPairs g n
+unfolding sumPairs
+pairs-mono n h = sum-mono n (λ v l. sum-mono v (λ u k. h u v k l))
 
 -- n numbers have n * (n - 1) / 2 unordered pairs
 pub pairs-le : (f : ℕ → ℕ → ℕ) (n : ℕ) → ((u v : ℕ) → f u v ≤ 1) → 2 * sumPairs f n + n ≤ n * n

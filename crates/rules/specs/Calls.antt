@@ -1,8 +1,9 @@
 -- What each public call comes to (RULES 11 and 12), refusals in the order of the questions, and what it leaves in lent memory.
+use mathlib.Core.Bool.{not, _||_}
 use mathlib.Core.List.{List, [], _∷_, _++_}
 use Prim.Native.Nat.{ℕ}
 use lib.Dec.{eqb, leb, ltb}
-use lib.ListN.{length, getD, drop}
+use lib.ListN.{length, drop}
 use Rattle.rules.specs.declared.layer.Settings.{Settings}
 use Rattle.rules.specs.declared.layer.Piece.{Piece}
 use Rattle.rules.specs.declared.layer.Edge.{Edge}
@@ -10,8 +11,8 @@ use Rattle.rules.specs.declared.answers.Score.{Score}
 use Rattle.rules.specs.declared.refusal.Place.{Place}
 use Rattle.rules.specs.Settings.{settingsInRange}
 use Rattle.rules.specs.Edges.{edgeOf, graphOf}
-use Rattle.rules.specs.Score.{sameMask, scoreOf}
-use Rattle.rules.specs.Units.{unitOf}
+use Rattle.rules.specs.Score.{maskOf, isSet, scoreOf}
+use Rattle.rules.specs.Units.{unitOf, fitsUnit}
 use Rattle.rules.specs.Decomposition.{Run, run}
 use Rattle.rules.specs.LayerText.{layerText}
 use Rattle.rules.specs.ResultText.{resultText}
@@ -29,13 +30,13 @@ newSettings masks spacing margin weight budget =
 unfoldable pub edgeBetween : Settings → Piece → Piece → Outcome Edge
 edgeBetween s a b = andThen (judgeLayer s (a ∷ b ∷ [])) λ _. done (edgeOf s a b)
 
--- the score of given masks, which do not split a unit
+-- the score of given masks: each is below K or not set yet, and those that are set do not split a unit
 unfoldable pub scoreMasks : Settings → List Piece → List ℕ → Outcome Score
 scoreMasks s ps masks =
     andThen (judgeLayer s ps) λ _.
     andThen (ask (eqb (length masks) (length ps)) 7 Place.Nothing) λ _.
-    andThen (askEach (λ i. ask (ltb (getD masks i 0) (s .masks)) 8 (Place.Piece i)) (length ps)) λ _.
-    andThen (askEach (λ i. ask (sameMask masks i (unitOf s ps i)) 12 (Place.Piece i)) (length ps)) λ _.
+    andThen (askEach (λ i. ask (not (isSet masks i) || ltb (maskOf masks i) (s .masks)) 8 (Place.Piece i)) (length ps)) λ _.
+    andThen (askEach (λ i. ask (fitsUnit (unitOf s ps) (length ps) masks i) 12 (Place.Piece i)) (length ps)) λ _.
     done (scoreOf (s .weight) (graphOf s ps) masks (length ps))
 
 -- the whole decomposition, with a lent list for the masks

@@ -1,8 +1,8 @@
 -- The three demands (RULES 8), each as a type: what is proved is a value of it.
+use mathlib.Core.Bool.{true, not}
 use mathlib.Core.List.{List}
 use mathlib.Core.Logic.{_↔_}
 use mathlib.Core.Path.{_≡_}
-use mathlib.Core.Bool.{true}
 use Prim.Native.Nat.{ℕ, _*_, _≤_, _<_, min}
 use lib.ListN.{length, getD}
 use Rattle.rules.specs.declared.layer.Settings.{Settings}
@@ -11,9 +11,10 @@ use Rattle.rules.specs.declared.layer.Edge.{Edge}
 use Rattle.rules.specs.declared.refusal.Place.{Place}
 use Rattle.rules.specs.declared.answers.Score.{Score}
 use Rattle.rules.specs.declared.answers.Verdict.{Verdict}
+use Rattle.rules.specs.Basics.{given, sumPairs}
 use Rattle.rules.specs.Settings.{settingsInRange, pieceAt}
 use Rattle.rules.specs.Edges.{squaredGap, contact, tied, edgeOf, graphOf}
-use Rattle.rules.specs.Score.{scoreOf}
+use Rattle.rules.specs.Score.{maskOf, sameMask, isSet, costOf, scoreOf}
 use Rattle.rules.specs.Decomposition.{Run, run, reached, completed, stepsInAll}
 use Rattle.rules.specs.LayerText.{layerText}
 use Rattle.rules.specs.Questions.{Outcome, done, refused, Valid, Layer, readLayer}
@@ -26,6 +27,17 @@ pub record Assignment (s : Settings) (ps : List Piece) (masks : List ℕ) : Type
   pub size : length masks ≡ length ps
   pub below : (i : ℕ) → i < length ps → getD masks i 0 < s .masks
   pub ties : (i j : ℕ) → i < length ps → j < length ps → tied s (pieceAt ps i) (pieceAt ps j) ≡ true → getD masks i 0 ≡ getD masks j 0
+
+-- a list has every mask that another one has set
+abbrev pub Extends : ℕ → List ℕ → List ℕ → Type 0
+Extends n masks more = (i : ℕ) → i < n → isSet masks i ≡ true → maskOf more i ≡ maskOf masks i
+
+-- masks that are half done: they can become an assignment by setting those that are not set; an assignment itself is half done with none missing
+pub record HalfDone (s : Settings) (ps : List Piece) (masks : List ℕ) : Type 0 where
+  pub size : length masks ≡ length ps
+  pub whole : List ℕ
+  pub assignment : Assignment s ps whole
+  pub extends : Extends (length ps) masks whole
 
 -- what masks score on a layer
 abbrev pub layerScore : Settings → List Piece → List ℕ → Score
@@ -65,6 +77,18 @@ pub record TooLittle (s : Settings) (p q : Piece) : Type 0 where
   pub touching : 0 < contact p q
   pub short : contact p q < s .margin
 
+-- a score that counts every edge: the conflicts are the conflict edges with one mask at both ends, the stitches are the stitch edges with two
+pub record EachEdge (s : Settings) (ps : List Piece) (masks : List ℕ) : Type 0 where
+  pub conflicts : layerScore s ps masks .conflicts ≡ sumPairs (λ u v. given (sameMask masks u v) (graphOf s ps .conflicts u v)) (length ps)
+  pub stitches : layerScore s ps masks .stitches ≡ sumPairs (λ u v. given (not (sameMask masks u v)) (graphOf s ps .stitches u v)) (length ps)
+  pub cost : layerScore s ps masks .cost ≡ costOf (s .weight) (layerScore s ps masks .conflicts) (layerScore s ps masks .stitches)
+
+-- a score that has in nothing more than another one
+pub record AtMost (a b : Score) : Type 0 where
+  pub conflicts : a .conflicts ≤ b .conflicts
+  pub stitches : a .stitches ≤ b .stitches
+  pub cost : a .cost ≤ b .cost
+
 -- a text states a layer
 pub record States (text : List ℕ) (l : Layer) : Type 0 where
   pub valid : Valid (l .settings) (l .pieces)
@@ -78,8 +102,12 @@ pub record Demand2 : Type 0 where
   -- the graph of a layer has just these edges
   pub conflicts : (s : Settings) (ps : List Piece) (u v : ℕ) → (graphOf s ps .conflicts u v ≡ 1) ↔ TooClose s (pieceAt ps u) (pieceAt ps v)
   pub stitches : (s : Settings) (ps : List Piece) (u v : ℕ) → (graphOf s ps .stitches u v ≡ 1) ↔ Stitchable s (pieceAt ps u) (pieceAt ps v)
-  -- masks are scored if they are an assignment of a valid layer, and only then
-  pub scored : (s : Settings) (ps : List Piece) (masks : List ℕ) → (scoreMasks s ps masks ≡ done (layerScore s ps masks)) ↔ (Valid s ps × Assignment s ps masks)
+  -- masks are scored if the layer is valid and they are an assignment of it, whole or half done, and only then
+  pub scored : (s : Settings) (ps : List Piece) (masks : List ℕ) → (scoreMasks s ps masks ≡ done (layerScore s ps masks)) ↔ (Valid s ps × HalfDone s ps masks)
+  -- with every piece set, every edge counts
+  pub whole : (s : Settings) (ps : List Piece) (masks : List ℕ) → Valid s ps → Assignment s ps masks → EachEdge s ps masks
+  -- setting more pieces lowers nothing
+  pub more : (s : Settings) (ps : List Piece) (masks further : List ℕ) → Extends (length ps) masks further → AtMost (layerScore s ps masks) (layerScore s ps further)
   -- counts and cost belong to the masks
   pub counts : (s : Settings) (ps : List Piece) (lent : List ℕ) (r : Run) → decomposeLayer s ps lent ≡ done r
       → record { conflicts = r .conflicts; stitches = r .stitches; cost = r .cost } ≡ layerScore s ps (r .masks)

@@ -1,5 +1,5 @@
--- Score (RULES 3). Masks are a list: the mask of vertex v stands at place v.
-use mathlib.Core.Bool.{Bool, not, cond}
+-- Score (RULES 3). Masks are a list: the mask of vertex v stands at place v. Where they are set by hand, some may be missing yet.
+use mathlib.Core.Bool.{Bool, not, cond, _&&_}
 use mathlib.Core.List.{List}
 use Prim.Native.Nat.{ℕ, _+_, _*_}
 use lib.Dec.{eqb}
@@ -14,13 +14,27 @@ maskOf masks v = getD masks v 0
 abbrev pub sameMask : List ℕ → ℕ → ℕ → Bool
 sameMask masks u v = eqb (maskOf masks u) (maskOf masks v)
 
--- the conflict edges whose ends have the same mask
-unfoldable pub conflictsOf : Graph → List ℕ → ℕ → ℕ
-conflictsOf g masks n = sumPairs (λ u v. given (sameMask masks u v) (g .conflicts u v)) n
+-- what stands in the place of a mask that is not set yet
+abbrev pub unset : ℕ
+unset = 255
 
--- the stitch edges whose ends have different masks
+abbrev pub isSet : List ℕ → ℕ → Bool
+isSet masks v = not (eqb (maskOf masks v) unset)
+
+-- whether two vertices are set, and on one mask; or are set, and on two
+abbrev pub together : List ℕ → ℕ → ℕ → Bool
+together masks u v = isSet masks u && isSet masks v && sameMask masks u v
+
+abbrev pub apart : List ℕ → ℕ → ℕ → Bool
+apart masks u v = isSet masks u && isSet masks v && not (sameMask masks u v)
+
+-- the conflict edges whose ends are together
+unfoldable pub conflictsOf : Graph → List ℕ → ℕ → ℕ
+conflictsOf g masks n = sumPairs (λ u v. given (together masks u v) (g .conflicts u v)) n
+
+-- the stitch edges whose ends are apart
 unfoldable pub stitchesOf : Graph → List ℕ → ℕ → ℕ
-stitchesOf g masks n = sumPairs (λ u v. given (not (sameMask masks u v)) (g .stitches u v)) n
+stitchesOf g masks n = sumPairs (λ u v. given (apart masks u v) (g .stitches u v)) n
 
 -- the cost, with a conflict's weight
 abbrev pub costOf : ℕ → ℕ → ℕ → ℕ

@@ -1,16 +1,16 @@
 -- Ties and units (RULES 17). Pieces that ties connect form a unit with one mask. Its number is that of its lowest piece, and the decomposition's vertices are
 -- the units.
-use mathlib.Core.Bool.{not, cond}
+use mathlib.Core.Bool.{Bool, not, cond, _&&_, _||_}
 use mathlib.Core.List.{List, [], _∷_, map}
 use Prim.Native.Nat.{ℕ}
 use lib.Dec.{eqb}
 use lib.ListN.{length, getD}
 use Rattle.rules.specs.declared.layer.Settings.{Settings}
 use Rattle.rules.specs.declared.layer.Piece.{Piece}
-use Rattle.rules.specs.Basics.{given, sumOf, upTo, keep, occurs}
+use Rattle.rules.specs.Basics.{given, sumOf, upTo, keep, find, foundOr, occurs}
 use Rattle.rules.specs.Settings.{pieceAt}
 use Rattle.rules.specs.Edges.{tied, Graph}
-use Rattle.rules.specs.Score.{maskOf}
+use Rattle.rules.specs.Score.{maskOf, sameMask, isSet}
 use Rattle.rules.specs.Components.{components}
 
 -- ---- Which unit a piece is in
@@ -62,3 +62,13 @@ mergedGraph unit n g = record {
 -- every vertex has the mask of its unit
 unfoldable pub spread : (ℕ → ℕ) → ℕ → List ℕ → List ℕ
 spread unit n masks = map (λ i. maskOf masks (unit i)) (upTo n)
+
+-- ---- Masks that are set by hand
+
+-- the lowest set vertex of unit u, or u where none is set
+abbrev pub lowestSet : (ℕ → ℕ) → ℕ → List ℕ → ℕ → ℕ
+lowestSet unit n masks u = foundOr u (find (λ i. isSet masks i && eqb (unit i) u) (upTo n))
+
+-- whether vertex i is not set, or has the mask of the lowest set vertex of its unit
+abbrev pub fitsUnit : (ℕ → ℕ) → ℕ → List ℕ → ℕ → Bool
+fitsUnit unit n masks i = not (isSet masks i) || sameMask masks i (lowestSet unit n masks (unit i))

@@ -113,6 +113,9 @@ impl Piece {
     pub const COORDINATE_GREATEST: u32 = 1_000_000;
 
     pub const COUNT_GREATEST: usize = 512;
+
+    // Where masks are scored, it stands for the mask of a piece that is not set yet (RULES 3).
+    pub const UNSET: u8 = 255;
 }
 
 // How two pieces are joined: by an edge of the one or the other kind, or by a tie, which puts both on one mask.

@@ -1,5 +1,5 @@
 -- The score of masks on the layer of a text: from the layer that was read, and by masks in place of the numbers that they are handed on for. Assumes nothing.
-use mathlib.Core.Bool.{true}
+use mathlib.Core.Bool.{Bool, true, false, not, _||_}
 use mathlib.Core.List.{List, map}
 use mathlib.Core.Path.{_≡_, sym, ap, ap₂, _∙_}
 use Prim.Native.Nat.{ℕ, _≤_, _<_, min}
@@ -7,7 +7,7 @@ use native.Mathlib.Omega.{arith}
 use lib.Dec.{eqb, leb, ltb}
 use lib.ListN.{length, getD, take, length-take, length-map, List·getD-map}
 use lib.Seq.{getD-take, ext-getD}
-use borrow.Author.Tests.{eqb-true, eq-eqb, ltb-true, le-ltb, leb-false, le-leb}
+use borrow.Author.Tests.{eqb-true, eq-eqb, ne-eqb, le-ltb, leb-false}
 use Rattle.rules.specs.declared.layer.Settings.{Settings}
 use Rattle.rules.specs.declared.layer.Piece.{Piece}
 use Rattle.rules.specs.declared.refusal.Place.{Place}
@@ -17,11 +17,11 @@ use Rattle.rules.specs.Answers.{scoreAnswer}
 use Rattle.rules.specs.Calls.{scoreMasks}
 use Rattle.rules.specs.Edges.{graphOf}
 use Rattle.rules.specs.Questions.{Outcome, done, ask, andThen, askEach, Valid, judgeLayer, readLayer}
-use Rattle.rules.specs.Score.{sameMask, scoreOf}
-use Rattle.rules.specs.Units.{unitOf}
+use Rattle.rules.specs.Score.{unset, scoreOf}
+use Rattle.rules.specs.Units.{unitOf, fitsUnit}
 use Rattle.rules.proofs.Outcomes.{accepted, ends-ask, ends-each, each-ext, ask-yes, then-same}
 use Rattle.rules.proofs.Ranges.{within-facts, settings-facts}
-use Rattle.rules.proofs.Tests.{by-test, same}
+use Rattle.rules.proofs.Tests.{by-test, clash, same}
 use Rattle.rules.proofs.Validity.{valid-sound}
 use Rattle.text.proofs.HandedLayers.{WasRead}
 use Rattle.score.specs.Masks.{maskOf, masksOf, AllStored}
@@ -36,16 +36,22 @@ score-read text masks w ps e answer told =
 
 -- ---- Masks for numbers
 
--- a number is below a number of masks exactly when its mask is, and is then its own mask
-module _ (limit : ℕ) (small : limit ≤ 8) (n : ℕ) where
-  mask-below : ltb (maskOf n) limit ≡ ltb n limit
-  mask-below =
+-- a number passes 8 exactly when its mask does, and is then its own mask
+module _ (limit : ℕ) (small : limit ≤ 8) where
+  abbrev allowed : ℕ → Bool
+  allowed n = not (not (eqb n unset)) || ltb n limit
+
+  too-large : (n : ℕ) → 255 < n → allowed n ≡ false
+  too-large n h = rw (ne-eqb n unset (λ e. omega arith), le-ltb n limit (omega arith))
+
+  mask-allowed : (n : ℕ) → allowed (maskOf n) ≡ allowed n
+  mask-allowed n =
       by-test (leb n 255)
       (λ e. rw e)
-      (λ e. let h = leb-false n 255 e in rw e (le-ltb 254 limit (omega arith) ∙ sym (le-ltb n limit (omega arith))))
+      (λ e. rw e (le-ltb 254 limit (omega arith) ∙ sym (too-large n (leb-false n 255 e))))
 
-  mask-same : n < limit → maskOf n ≡ n
-  mask-same h = rw (le-leb n 255 (omega arith))
+  mask-same : (n : ℕ) → allowed n ≡ true → maskOf n ≡ n
+  mask-same n h = by-test (leb n 255) (λ e. rw e) (λ e. clash h (too-large n (leb-false n 255 e)))
 
 module _ (s : Settings) (ps : List Piece) (ns : List ℕ) (valid : Valid s ps) where
   abbrev masks : List ℕ
@@ -72,19 +78,19 @@ module _ (s : Settings) (ps : List Piece) (ns : List ℕ) (valid : Valid s ps) w
     mask-at i h = getD-take 513 (map maskOf ns) i 0 (omega (arith, few)) ∙ List·getD-map maskOf ns i 0
 
     abbrev question : List ℕ → ℕ → Outcome (Unit {0})
-    question ms i = ask (ltb (getD ms i 0) (s .masks)) 8 (Place.Piece i)
+    question ms i = ask (allowed (s .masks) small (getD ms i 0)) 8 (Place.Piece i)
 
     asked : askEach (question masks) (length ps) ≡ askEach (question ns) (length ps)
-    asked = each-ext (length ps) λ i h. rw (mask-at i h, mask-below (s .masks) small (getD ns i 0))
+    asked = each-ext (length ps) λ i h. rw (mask-at i h, mask-allowed (s .masks) small (getD ns i 0))
 
-    all-below : askEach (question ns) (length ps) ≡ done tt → (i : ℕ) → i < length ps → ltb (getD ns i 0) (s .masks) ≡ true
-    all-below e = accepted (ends-each {R = λ _ _. Unit {0}} (question ns) (length ps) (λ i h. ends-ask (ltb (getD ns i 0) (s .masks)) 8 _ tt)) e
+    all-pass : askEach (question ns) (length ps) ≡ done tt → (i : ℕ) → i < length ps → allowed (s .masks) small (getD ns i 0) ≡ true
+    all-pass e = accepted (ends-each {R = λ _ _. Unit {0}} (question ns) (length ps) (λ i h. ends-ask (allowed (s .masks) small (getD ns i 0)) 8 _ tt)) e
 
     as-numbers : askEach (question ns) (length ps) ≡ done tt → masks ≡ ns
     as-numbers e =
         ext-getD 0 masks ns (omega (arith, size, few)) λ i h.
         let inside : i < length ps = omega (arith, size) in
-        mask-at i inside ∙ mask-same (s .masks) small (getD ns i 0) (ltb-true _ _ (all-below e i inside))
+        mask-at i inside ∙ mask-same (s .masks) small (getD ns i 0) (all-pass e i inside)
 
 same-score : (s : Settings) (ps : List Piece) (ns : List ℕ) → scoreMasks s ps (masksOf 513 ns) ≡ scoreMasks s ps ns
 unfolding scoreMasks
@@ -95,7 +101,7 @@ same-score s ps ns =
     let all = eqb-true (length ns) (length ps) (ask-yes (eqb (length ns) (length ps)) 7 Place.Nothing counts) in
     rw (asked s ps ns valid all)
     (then-same (askEach (question s ps ns valid all ns) (length ps)) λ _ below.
-    ap (λ (ms : List ℕ). andThen (askEach (λ i. ask (sameMask ms i (unitOf s ps i)) 12 (Place.Piece i)) (length ps)) λ _. done (scoreOf (s .weight) (graphOf s ps) ms (length ps)))
+    ap (λ (ms : List ℕ). andThen (askEach (λ i. ask (fitsUnit (unitOf s ps) (length ps) ms i) 12 (Place.Piece i)) (length ps)) λ _. done (scoreOf (s .weight) (graphOf s ps) ms (length ps)))
     (as-numbers s ps ns valid all below)))
 
 -- masks that were stored from a text of mask lines, in room for 513

@@ -5,7 +5,7 @@ ghost use lib.ListN.{set};
 ghost use Rattle.score.specs.Masks.{maskOf, LineFound, MasksFound};
 
 // The mask that a number is handed on as. A number above 255 is no mask of any layer, and neither is 254, so question 8 refuses it
-// at its piece. It is not made 255, so that scoring is free to give that value a meaning of its own.
+// at its piece. It is not made 255, which says that a piece is not set.
 fn mask_of(number: u32) -> u8
     ensures { λ r. ⌜ r ≡ maskOf number ⌝ }
 {

@@ -7,7 +7,7 @@ use crate::masks::read_masks;
 use rules::ReadAnswer;
 use rules::ScoreAnswer;
 
-// Refusals 2 to 6 are those of the layer text, 7 and 8 those of the masks.
+// Refusals 2 to 6 are those of the layer text, 7, 8 and 12 those of the masks.
 fn score_layer(layer: &[u8], masks: &[u8]) -> ScoreAnswer
     ensures { λ r. ⌜ scoreAnswer r ≡ scoreText (now (layer .entry)) (now (masks .entry)) ⌝ }
 {

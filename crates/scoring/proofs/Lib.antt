@@ -1,2 +1,4 @@
--- What the functions' proofs cite, and other crates may: laws of the score of adjacency words.
+-- What the functions' proofs cite, and other crates may: laws of a row of edges, of the score of adjacency words, and of the masks noted of units.
+pub mod RowLaws
 pub mod ScoreLaws
+pub mod UnitMaskLaws

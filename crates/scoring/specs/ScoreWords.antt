@@ -1,42 +1,47 @@
--- What the edges of adjacency words add to a score. Assumes nothing: these are definitions.
-use mathlib.Core.Bool.{not}
+-- What the edges of adjacency words add to a score, and the questions before it. Assumes nothing: these are definitions.
+use mathlib.Core.Bool.{Bool, true, false, not, _&&_, _||_}
 use mathlib.Core.List.{List}
-use mathlib.Core.Path.{_≡_}
 use Prim.Native.Nat.{ℕ}
-use lib.Dec.{ltb}
-use lib.ListN.{getD}
+use lib.Dec.{eqb, ltb}
 use Rattle.bitset.specs.Bits.{hasEdge}
 use Rattle.rules.specs.declared.layer.Settings.{Settings}
 use Rattle.rules.specs.declared.layer.Piece.{Piece}
 use Rattle.rules.specs.declared.answers.Score.{Score}
 use Rattle.rules.specs.declared.refusal.Place.{Place}
-use Rattle.rules.specs.Basics.{given, sumTo}
+use Rattle.rules.specs.Basics.{given}
 use Rattle.rules.specs.Edges.{graphOf}
-use Rattle.rules.specs.Score.{sameMask, scoreOf}
-use Rattle.rules.specs.Units.{unitOf}
+use Rattle.rules.specs.Score.{maskOf, unset, isSet, scoreOf}
+use Rattle.rules.specs.Units.{unitOf, fitsUnit}
 use Rattle.rules.specs.Questions.{Outcome, done, ask, andThen, askEach}
-use Rattle.scoring.specs.declared.counting.Tally.{Tally}
 
--- the conflict that u and v count for by the words of conflict edges, and the stitch by those of stitch edges
-abbrev pub conflictIn : List ℕ → List ℕ → ℕ → ℕ → ℕ
-conflictIn words masks u v = given (sameMask masks u v) (given (hasEdge words u v) 1)
+-- whether two masks are set and one, or set and two
+abbrev pub oneMask : ℕ → ℕ → Bool
+oneMask a b = not (eqb a unset) && not (eqb b unset) && eqb a b
 
-abbrev pub stitchIn : List ℕ → List ℕ → ℕ → ℕ → ℕ
-stitchIn words masks u v = given (not (sameMask masks u v)) (given (hasEdge words u v) 1)
+abbrev pub twoMasks : ℕ → ℕ → Bool
+twoMasks a b = not (eqb a unset) && not (eqb b unset) && not (eqb a b)
 
--- what the pairs of v and a lesser number count for
-pub record RowCount (conflictWords stitchWords masks : List ℕ) (v : ℕ) (t : Tally) : Type 0 where
-  pub conflicts : t .conflicts ≡ sumTo (λ u. conflictIn conflictWords masks u v) v
-  pub stitches : t .stitches ≡ sumTo (λ u. stitchIn stitchWords masks u v) v
+-- whether an edge counts whose ends have these masks: a conflict edge on one mask, a stitch edge on two
+abbrev pub edgeCounts : Bool → ℕ → ℕ → Bool
+edgeCounts true a b = oneMask a b
+edgeCounts false a b = twoMasks a b
+
+-- what u and v count for by the words of one kind of edges
+abbrev pub edgeIn : Bool → List ℕ → List ℕ → ℕ → ℕ → ℕ
+edgeIn one words masks u v = given (edgeCounts one (maskOf masks u) (maskOf masks v)) (given (hasEdge words u v) 1)
+
+-- whether a mask is not set, or below the limit
+abbrev pub allowedMask : ℕ → ℕ → Bool
+allowedMask limit mask = eqb mask unset || ltb mask limit
 
 -- 8 of piece i
 abbrev pub maskQuestion : ℕ → List ℕ → ℕ → Outcome (Unit {0})
-maskQuestion limit masks i = ask (ltb (getD masks i 0) limit) 8 (Place.Piece i)
+maskQuestion limit masks i = ask (not (isSet masks i) || ltb (maskOf masks i) limit) 8 (Place.Piece i)
 
--- 12 of piece i, where `unit` gives each piece's unit
-abbrev pub unitQuestion : (ℕ → ℕ) → List ℕ → ℕ → Outcome (Unit {0})
-unitQuestion unit masks i = ask (sameMask masks i (unit i)) 12 (Place.Piece i)
+-- 12 of piece i among n, where `unit` gives each piece's unit
+abbrev pub unitQuestion : (ℕ → ℕ) → ℕ → List ℕ → ℕ → Outcome (Unit {0})
+unitQuestion unit n masks i = ask (fitsUnit unit n masks i) 12 (Place.Piece i)
 
 -- 12 of every piece, then the score
 abbrev pub unitsScored : Settings → List Piece → ℕ → List ℕ → Outcome Score
-unitsScored s ps n masks = andThen (askEach (unitQuestion (unitOf s ps) masks) n) λ _. done (scoreOf (s .weight) (graphOf s ps) masks n)
+unitsScored s ps n masks = andThen (askEach (unitQuestion (unitOf s ps) n masks) n) λ _. done (scoreOf (s .weight) (graphOf s ps) masks n)

@@ -1,72 +1,68 @@
-// Conflicts, stitches and cost from adjacency words. Each unordered pair is met once, from its greater number.
+// Conflicts, stitches and cost from adjacency words. Only edges are visited, each from its greater number. An edge with an end that is not set counts for
+// nothing.
 ghost use mathlib.Core.Path.{_≡_};
 ghost use Prim.Native.Nat.{_<_, _≤_};
 ghost use lib.ListN.{length};
-ghost use Rattle.rules.specs.Basics.{given};
+ghost use Rattle.rules.specs.Basics.{given, sumTo};
 ghost use Rattle.rules.specs.Score.{scoreOf, costOf};
-ghost use Rattle.adjacency.specs.Adjacency.{wordGraph};
-ghost use Rattle.scoring.specs.ScoreWords.{conflictIn, stitchIn, RowCount};
+ghost use Rattle.adjacency.specs.Adjacency.{BothWays, wordGraph};
+ghost use Rattle.scoring.specs.ScoreWords.{oneMask, twoMasks, edgeCounts, edgeIn};
+use rules::Piece;
 use rules::Score;
 
-// Conflicts and stitches that were counted.
-struct Tally {
-    conflicts: u32,
-    stitches: u32,
+// Whether two masks are set and one.
+fn on_one_mask(a: u8, b: u8) -> bool
+    ensures { λ r. ⌜ r ≡ oneMask a b ⌝ }
+{
+    a == b && b != Piece::UNSET
 }
 
-// 1 where an edge was found.
-fn counted(found: bool) -> u32
-    ensures { λ r. ⌜ r ≡ given found 1 ⌝ }
+// Whether two masks are set and two.
+fn on_two_masks(a: u8, b: u8) -> bool
+    ensures { λ r. ⌜ r ≡ twoMasks a b ⌝ }
 {
-    if found { 1 } else { 0 }
+    if a == b {
+        return false;
+    }
+    a != Piece::UNSET && b != Piece::UNSET
 }
 
-// The conflict that i and j count for: an edge with the same mask at both ends.
-fn conflict_in(words: &[u64; 4096], masks: &[u8], i: usize, j: usize) -> u32
-    requires { ⌜ i < j ⌝ }
-    requires { ⌜ j < 512 ⌝ }
-    requires { ⌜ j < length (now masks) ⌝ }
-    ensures { λ r. ⌜ r ≡ conflictIn (now (words .entry)) (now (masks .entry)) i j ⌝ }
+// Whether an edge counts whose ends have these masks. A conflict edge does on one mask, a stitch edge on two.
+fn counts(one: bool, a: u8, b: u8) -> bool
+    ensures { λ r. ⌜ r ≡ edgeCounts one a b ⌝ }
 {
-    if masks[i] == masks[j] {
-        counted(bitset::has_edge(words, i, j))
+    if one {
+        on_one_mask(a, b)
     } else {
-        0
+        on_two_masks(a, b)
     }
 }
 
-// The stitch that i and j count for: an edge with different masks at its ends.
-fn stitch_in(words: &[u64; 4096], masks: &[u8], i: usize, j: usize) -> u32
-    requires { ⌜ i < j ⌝ }
-    requires { ⌜ j < 512 ⌝ }
-    requires { ⌜ j < length (now masks) ⌝ }
-    ensures { λ r. ⌜ r ≡ stitchIn (now (words .entry)) (now (masks .entry)) i j ⌝ }
+// 1 where an edge counts.
+fn counted(yes: bool) -> u32
+    ensures { λ r. ⌜ r ≡ given yes 1 ⌝ }
 {
-    if masks[i] == masks[j] {
-        0
-    } else {
-        counted(bitset::has_edge(words, i, j))
-    }
+    if yes { 1 } else { 0 }
 }
 
-// What j and the lesser numbers count for.
-fn count_row(conflicts: &[u64; 4096], stitches: &[u64; 4096], masks: &[u8], j: usize) -> Tally
+// How many edges between j and lesser numbers count.
+fn count_edges(words: &[u64; 4096], masks: &[u8], j: usize, one: bool) -> u32
     requires { ⌜ j < 512 ⌝ }
     requires { ⌜ j < length (now masks) ⌝ }
-    ensures { λ r. ⌜ RowCount (now (conflicts .entry)) (now (stitches .entry)) (now (masks .entry)) j r ⌝ }
+    requires { ⌜ BothWays (now words) ⌝ }
+    ensures { λ r. ⌜ r ≡ sumTo (λ u. edgeIn one (now (words .entry)) (now (masks .entry)) u j) j ⌝ }
 {
-    let mut conflict_count: u32 = 0;
-    let mut stitch_count: u32 = 0;
-    let mut i = 0;
-    while i < j {
-        conflict_count += conflict_in(conflicts, masks, i, j);
-        stitch_count += stitch_in(stitches, masks, i, j);
-        i += 1;
+    let mut count: u32 = 0;
+    let mut rest = bitset::below(j);
+    loop {
+        let i = bitset::lowest_in_row(words, j, &rest);
+        if i == 512 {
+            break;
+        }
+        count += counted(counts(one, masks[i], masks[j]));
+        bitset::take_out(&mut rest, i);
     }
-    Tally {
-        conflicts: conflict_count,
-        stitches: stitch_count,
-    }
+    count
 }
 
 // What conflicts and stitches cost. There is at most one of each for each pair.
@@ -90,15 +86,16 @@ pub fn score_words(
     requires { ⌜ weight ≤ 1000 ⌝ }
     requires { ⌜ n ≤ 512 ⌝ }
     requires { ⌜ length (now masks) ≡ n ⌝ }
+    requires { ⌜ BothWays (now conflicts) ⌝ }
+    requires { ⌜ BothWays (now stitches) ⌝ }
     ensures { λ r. ⌜ r ≡ scoreOf weight (wordGraph (now (conflicts .entry)) (now (stitches .entry))) (now (masks .entry)) n ⌝ }
 {
     let mut conflict_count: u32 = 0;
     let mut stitch_count: u32 = 0;
     let mut j = 0;
     while j < n {
-        let row = count_row(conflicts, stitches, masks, j);
-        conflict_count += row.conflicts;
-        stitch_count += row.stitches;
+        conflict_count += count_edges(conflicts, masks, j, true);
+        stitch_count += count_edges(stitches, masks, j, false);
         j += 1;
     }
     Score {

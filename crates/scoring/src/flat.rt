@@ -8,23 +8,31 @@ ghost use Rattle.rules.specs.Questions.{askEach, Valid};
 ghost use Rattle.layout.specs.Flat.{piecesOf};
 ghost use Rattle.layout.specs.Judged.{judgement};
 ghost use Rattle.adjacency.specs.UnitGraph.{unitAt};
-ghost use Rattle.scoring.specs.ScoreWords.{maskQuestion, unitQuestion, unitsScored};
+ghost use Rattle.scoring.specs.ScoreWords.{allowedMask, maskQuestion, unitQuestion, unitsScored};
+ghost use Rattle.scoring.specs.UnitMasks.{fitsNoted, notedAfter};
 use crate::counting::score_words;
 use layout::Judgement;
+use rules::Piece;
 use rules::Place;
 use rules::Refusal;
 use rules::ScoreAnswer;
 use rules::Settings;
 
-// Question 8: each mask is below the limit.
+// Whether a mask is below the limit, or not set.
+fn allowed(limit: u32, mask: u8) -> bool
+    ensures { λ r. ⌜ r ≡ allowedMask limit mask ⌝ }
+{
+    (mask as u32) < limit || Piece::UNSET <= mask
+}
+
+// Question 8 of each mask.
 fn judge_masks(limit: u32, masks: &[u8]) -> Judgement
     requires { ⌜ length (now masks) ≤ 512 ⌝ }
     ensures { λ r. ⌜ judgement r ≡ askEach (maskQuestion limit (now (masks .entry))) (length (now (masks .entry))) ⌝ }
 {
     let mut i = 0;
     while i < masks.len() {
-        let mask = masks[i] as u32;
-        if limit <= mask {
+        if !allowed(limit, masks[i]) {
             return Judgement::Refused(Refusal::MaskRange, Place::Piece(i as u32));
         }
         i += 1;
@@ -32,15 +40,31 @@ fn judge_masks(limit: u32, masks: &[u8]) -> Judgement
     Judgement::Passed
 }
 
-// Question 12: each piece has the mask of its unit's lowest piece.
+// Whether a mask goes with the one that is noted of its unit. Where none is noted yet it does, and is noted.
+fn fits_noted(noted: &mut [u8; 512], unit: usize, mask: u8) -> bool
+    requires { ⌜ unit < 512 ⌝ }
+    ensures { λ r. ⌜ r ≡ fitsNoted (now (noted .entry)) unit mask ⌝ }
+    ensures { λ _. ⌜ now (noted .exit) ≡ notedAfter (now (noted .entry)) unit mask ⌝ }
+{
+    let all: &mut [u8] = noted;
+    let known = all[unit];
+    if known == Piece::UNSET {
+        all[unit] = mask;
+        return true;
+    }
+    mask == Piece::UNSET || mask == known
+}
+
+// Question 12: each set piece has the mask of its unit's lowest set piece, which is noted where it is met.
 fn judge_units(units: &[u16; 512], masks: &[u8]) -> Judgement
     requires { ⌜ length (now masks) ≤ 512 ⌝ }
     requires { ⌜ ((i : ℕ) → i < length (now masks) → unitAt (now units) i < length (now masks)) ⌝ }
-    ensures { λ r. ⌜ judgement r ≡ askEach (unitQuestion (unitAt (now (units .entry))) (now (masks .entry))) (length (now (masks .entry))) ⌝ }
+    ensures { λ r. ⌜ judgement r ≡ askEach (unitQuestion (unitAt (now (units .entry))) (length (now (masks .entry))) (now (masks .entry))) (length (now (masks .entry))) ⌝ }
 {
+    let mut noted = [Piece::UNSET; 512];
     let mut i = 0;
     while i < masks.len() {
-        if masks[i] != masks[units[i] as usize] {
+        if !fits_noted(&mut noted, units[i] as usize, masks[i]) {
             return Judgement::Refused(Refusal::Split, Place::Piece(i as u32));
         }
         i += 1;

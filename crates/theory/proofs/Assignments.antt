@@ -1,60 +1,168 @@
--- Masks are scored exactly if the layer is valid and they are an assignment of it (`scored-exactly`): a mask for each piece, each below K, and no tie broken,
--- which is what 12 asks (`keeps-exactly`). So what is scored are the run's rivals, and the run itself.
-use mathlib.Core.Bool.{true}
-use mathlib.Core.List.{List}
+-- Masks are scored exactly if the layer is valid and they are half done (`scored-exactly`). One way: pieces of a unit that are set have the mask that an assignment
+-- has on that unit, so 12 passes. The other way: 8 and 12 passed, so each unit can be given the mask of its lowest set piece, or mask 0 where none is set
+-- (`filled`); that breaks no tie, is below K, and is what the set pieces have. An assignment is half done with nothing missing (`whole-half-done`), and in its score
+-- every edge counts (`whole-counts`).
+use mathlib.Core.Bool.{Bool, true, not, cond, _&&_, _||_}
+use mathlib.Core.List.{List, map}
 use mathlib.Core.Logic.{_↔_}
-use mathlib.Core.Path.{_≡_}
+use mathlib.Core.Path.{_≡_, refl, sym, ap, _∙_}
 use Prim.Native.Nat.{ℕ, _<_}
+use native.Mathlib.Omega.{arith}
 use lib.Dec.{eqb, ltb}
-use lib.ListN.{length, getD}
+use lib.ListN.{length, length-map}
 use borrow.Author.Tests.{eqb-true, eq-eqb, ltb-true, lt-ltb}
 use Rattle.rules.specs.declared.layer.Settings.{Settings}
 use Rattle.rules.specs.declared.layer.Piece.{Piece}
 use Rattle.rules.specs.declared.refusal.Place.{Place}
-use Rattle.rules.specs.Score.{maskOf, sameMask}
-use Rattle.rules.specs.Units.{unitOf}
+use Rattle.rules.specs.Basics.{upTo}
+use Rattle.rules.specs.Edges.{graphOf}
+use Rattle.rules.specs.Score.{maskOf, isSet, scoreOf}
+use Rattle.rules.specs.Units.{unitOf, lowestSet, fitsUnit}
 use Rattle.rules.specs.Questions.{done, ask, askEach, judgeLayer, Valid}
-use Rattle.rules.specs.Refusals.{Ends}
 use Rattle.rules.specs.Calls.{scoreMasks}
-use Rattle.rules.specs.Demands.{Assignment, layerScore}
+use Rattle.rules.specs.Demands.{Assignment, Extends, HalfDone, EachEdge, layerScore}
+use Rattle.rules.proofs.Finding.{find-one}
+use Rattle.rules.proofs.Lists.{any-found, in-upTo, length-upTo, mapped-upTo}
 use Rattle.rules.proofs.Outcomes.{ends-ask, ends-each, accepted, each-passes, then-with, ask-yes}
-use Rattle.theory.proofs.Units.{KeepsTies, one-mask, one-mask-keeps}
+use Rattle.rules.proofs.Ranges.{settings-facts}
+use Rattle.rules.proofs.Tests.{by-test, both}
+use Rattle.rules.proofs.Validity.{valid-sound}
+use Rattle.theory.proofs.HalfDone.{AllSet, below-set, whole-conflicts, whole-stitches}
+use Rattle.theory.proofs.Units.{unit-keeps, tied-unit}
+
+-- ---- The masks of a valid layer
+
+module _ (s : Settings) (ps : List Piece) (valid : Valid s ps) where
+  -- there is one
+  pub masks-above-0 : 0 < s .masks
+  masks-above-0 = omega (arith, settings-facts s (valid-sound s ps valid .settings) .masks .low)
+
+  -- and those below K are set
+  pub masks-set : (masks : List ℕ) → ((i : ℕ) → i < length ps → maskOf masks i < s .masks) → AllSet (length ps) masks
+  masks-set masks below i l = below-set masks i (omega (arith, below i l, settings-facts s (valid-sound s ps valid .settings) .masks .high))
+
+  pub whole-counts : (masks : List ℕ) → Assignment s ps masks → EachEdge s ps masks
+  unfolding scoreOf
+  whole-counts masks a =
+      let all = masks-set masks (a .below) in
+      record {
+        conflicts = whole-conflicts (graphOf s ps) masks (length ps) all;
+        stitches = whole-stitches (graphOf s ps) masks (length ps) all;
+        cost = refl;
+      }
 
 module _ (s : Settings) (ps : List Piece) (masks : List ℕ) where
-  below : (i : ℕ) → i < length ps → Ends (λ _. ltb (getD masks i 0) (s .masks) ≡ true) (λ _ _. Unit {0}) (ask (ltb (getD masks i 0) (s .masks)) 8 (Place.Piece i))
-  below i l = ends-ask (ltb (getD masks i 0) (s .masks)) 8 (Place.Piece i) tt
+  pub whole-half-done : Assignment s ps masks → HalfDone s ps masks
+  whole-half-done a = record { size = a .size; whole = masks; assignment = a; extends = λ i l e. refl }
 
-  together : (i : ℕ) → i < length ps → Ends (λ _. sameMask masks i (unitOf s ps i) ≡ true) (λ _ _. Unit {0}) (ask (sameMask masks i (unitOf s ps i)) 12 (Place.Piece i))
-  together i l = ends-ask (sameMask masks i (unitOf s ps i)) 12 (Place.Piece i) tt
+  -- ---- The lowest set piece of a unit
 
-  -- 12 refuses no masks exactly if they keep ties
-  pub keeps-exactly : (askEach (λ i. ask (sameMask masks i (unitOf s ps i)) 12 (Place.Piece i)) (length ps) ≡ done tt) ↔ KeepsTies s ps (maskOf masks)
-  keeps-exactly = (
-    λ e. one-mask-keeps s ps (maskOf masks) (λ i l. eqb-true _ _ (accepted (ends-each _ (length ps) together) e i l)),
-    λ ties. each-passes _ (length ps) (λ i l. rw (eq-eqb (maskOf masks i) (maskOf masks (unitOf s ps i)) (one-mask s ps (maskOf masks) ties i l))),
-  )
+  abbrev lowest : ℕ → ℕ
+  lowest u = lowestSet (unitOf s ps) (length ps) masks u
 
-  pub scored-exactly : (scoreMasks s ps masks ≡ done (layerScore s ps masks)) ↔ (Valid s ps × Assignment s ps masks)
+  -- of a piece that is set
+  record Lowest (i : ℕ) : Type 0 where
+    inside : lowest (unitOf s ps i) < length ps
+    isOne : isSet masks (lowest (unitOf s ps i)) ≡ true
+    unit : unitOf s ps (lowest (unitOf s ps i)) ≡ unitOf s ps i
+
+  lowest-of : (i : ℕ) → i < length ps → isSet masks i ≡ true → Lowest i
+  lowest-of i l e =
+      let u = unitOf s ps i in
+      let some = any-found (λ j. isSet masks j && eqb (unitOf s ps j) u) (length ps) l (rw (e, eq-eqb u u refl)) in
+      let found = find-one (λ j. isSet masks j && eqb (unitOf s ps j) u) u (upTo (length ps)) some in
+      let passes = both (isSet masks (lowest u)) _ (found .1) in
+      record { inside = in-upTo (length ps) (lowest u) .0 (found .0); isOne = passes .0; unit = eqb-true _ _ (passes .1) }
+
+  -- ---- Half done masks pass
+
+  module _ (h : HalfDone s ps masks) where
+    -- a set piece has the mask of the assignment
+    half-below : (i : ℕ) → i < length ps → (not (isSet masks i) || ltb (maskOf masks i) (s .masks)) ≡ true
+    half-below i l =
+        by-test (isSet masks i)
+        (λ e. rw (e, ← h .extends i l e) (lt-ltb (maskOf (h .whole) i) (s .masks) (h .assignment .below i l)))
+        (λ e. rw e)
+
+    half-fits : (i : ℕ) → i < length ps → fitsUnit (unitOf s ps) (length ps) masks i ≡ true
+    half-fits i l =
+        by-test (isSet masks i)
+        (λ e.
+        let low = lowest-of i l e in
+        let j = lowest (unitOf s ps i) in
+        let one : maskOf masks i ≡ maskOf masks j
+        = sym (h .extends i l e) ∙ unit-keeps s ps (maskOf (h .whole)) (h .assignment .ties) i j l (low .inside) (sym (low .unit)) ∙ h .extends j (low .inside) (low .isOne) in
+        rw e (eq-eqb (maskOf masks i) (maskOf masks j) one))
+        (λ e. rw e)
+
+  -- ---- Masks that pass are half done
+
+  -- the mask of a vertex, or 0 where it is not below K
+  abbrev maskOr0 : ℕ → ℕ
+  maskOr0 j = cond (ltb (maskOf masks j) (s .masks)) (maskOf masks j) 0
+
+  -- each unit on the mask of its lowest set piece, or on mask 0
+  abbrev filled : List ℕ
+  filled = map (λ i. maskOr0 (lowest (unitOf s ps i))) (upTo (length ps))
+
+  filled-at : (i : ℕ) → i < length ps → maskOf filled i ≡ maskOr0 (lowest (unitOf s ps i))
+  filled-at i l = mapped-upTo (λ i. maskOr0 (lowest (unitOf s ps i))) 0 (length ps) i l
+
+  filled-below : 0 < s .masks → (i : ℕ) → i < length ps → maskOf filled i < s .masks
+  filled-below pos i l =
+      let j = lowest (unitOf s ps i) in
+      rw (filled-at i l)
+      (by-test (ltb (maskOf masks j) (s .masks)) (λ e. rw e (ltb-true (maskOf masks j) (s .masks) e)) (λ e. rw e pos))
+
+  filled-whole : 0 < s .masks → Assignment s ps filled
+  filled-whole pos = record {
+    size = length-map (upTo (length ps)) (λ i. maskOr0 (lowest (unitOf s ps i))) ∙ length-upTo (length ps);
+    below = filled-below pos;
+    ties = λ i j l k e. filled-at i l ∙ ap (λ (u : ℕ). maskOr0 (lowest u)) (tied-unit s ps i j l k e) ∙ sym (filled-at j k);
+  }
+
+  module _
+      (below : (i : ℕ) → i < length ps → (not (isSet masks i) || ltb (maskOf masks i) (s .masks)) ≡ true)
+      (fits : (i : ℕ) → i < length ps → fitsUnit (unitOf s ps) (length ps) masks i ≡ true) where
+    filled-extends : Extends (length ps) masks filled
+    filled-extends i l e =
+        let j = lowest (unitOf s ps i) in
+        let one : maskOf masks i ≡ maskOf masks j = eqb-true (maskOf masks i) (maskOf masks j) (rw e at (fits i l)) in
+        let low : ltb (maskOf masks i) (s .masks) ≡ true = rw e at (below i l) in
+        filled-at i l ∙ rw (← one, low)
+
+  -- ---- So masks are scored exactly if they are half done
+
+  abbrev belowLimit : ℕ → Bool
+  belowLimit i = not (isSet masks i) || ltb (maskOf masks i) (s .masks)
+
+  asked : (test : ℕ → Bool) (number : ℕ) → askEach (λ i. ask (test i) number (Place.Piece i)) (length ps) ≡ done tt → (i : ℕ) → i < length ps → test i ≡ true
+  asked test number e = accepted (ends-each {R = λ _ _. Unit {0}} _ (length ps) (λ i l. ends-ask (test i) number (Place.Piece i) tt)) e
+
+  passes : (test : ℕ → Bool) (number : ℕ) → ((i : ℕ) → i < length ps → test i ≡ true) → askEach (λ i. ask (test i) number (Place.Piece i)) (length ps) ≡ done tt
+  passes test number h = each-passes _ (length ps) (λ i l. rw (h i l))
+
+  pub scored-exactly : (scoreMasks s ps masks ≡ done (layerScore s ps masks)) ↔ (Valid s ps × HalfDone s ps masks)
   unfolding scoreMasks
   scored-exactly = (
     λ e.
         then-with (judgeLayer s ps) _ (layerScore s ps masks) e λ _ valid e1.
         then-with (ask (eqb (length masks) (length ps)) 7 Place.Nothing) _ (layerScore s ps masks) e1 λ _ count e2.
         then-with (askEach _ (length ps)) _ (layerScore s ps masks) e2 λ _ low e3.
-        then-with (askEach _ (length ps)) _ (layerScore s ps masks) e3 λ _ ties _. (
+        then-with (askEach _ (length ps)) _ (layerScore s ps masks) e3 λ _ units _. (
           valid,
           record {
             size = eqb-true _ _ (ask-yes (eqb (length masks) (length ps)) 7 Place.Nothing count);
-            below = λ i l. ltb-true _ _ (accepted (ends-each _ (length ps) below) low i l);
-            ties = keeps-exactly .0 ties;
+            whole = filled;
+            assignment = filled-whole (masks-above-0 s ps valid);
+            extends = filled-extends (asked belowLimit 8 low) (asked (fitsUnit (unitOf s ps) (length ps) masks) 12 units);
           },
         ),
     λ h.
-        let a = h .1 in
         rw (
           h .0,
-          eq-eqb (length masks) (length ps) (a .size),
-          each-passes (λ i. ask (ltb (getD masks i 0) (s .masks)) 8 (Place.Piece i)) (length ps) (λ i l. rw (lt-ltb (getD masks i 0) (s .masks) (a .below i l))),
-          keeps-exactly .1 (a .ties),
+          eq-eqb (length masks) (length ps) (h .1 .size),
+          passes belowLimit 8 (half-below (h .1)),
+          passes (fitsUnit (unitOf s ps) (length ps) masks) 12 (half-fits (h .1)),
         ),
   )

@@ -1,5 +1,5 @@
 -- Demand 3 as a theorem of the rules. The laws of the decomposition hold of the graph of any layer's units, whose edges have no direction and join no unit to
--- itself; the score of masks that keep ties is their cost among all units (`tied-score`); and settings that are alike but for the budget have one graph and
+-- itself; the score of masks below K that keep ties is their cost among all units (`tied-score`); and settings that are alike but for the budget have one graph and
 -- the same units. That a run is the search without a budget as far as its budget goes holds of every layer.
 use mathlib.Core.Bool.{Bool, true, false}
 use mathlib.Core.List.{List}
@@ -20,20 +20,15 @@ use Rattle.rules.specs.Score.{maskOf, scoreOf}
 use Rattle.rules.specs.Decomposition.{Reached, decompose, decomposeUnits, reached, Completed, completeUnits, completed, stepsInAll, verdictOf, Run, run}
 use Rattle.rules.specs.Questions.{Valid}
 use Rattle.rules.specs.Demands.{Alike, Assignment, assignmentCost, EndsWithin, OneRun, Demand3}
-use Rattle.rules.proofs.Ranges.{settings-facts}
-use Rattle.rules.proofs.Validity.{valid-sound}
 use Rattle.rules.proofs.Edges.{Undirected, undirected}
 use Rattle.rules.proofs.Tests.{clash}
 use Rattle.theory.proofs.Cost.{costIn, cost-same}
 use Rattle.theory.proofs.Merging.{number-in, in-number, numbers-distinct, merged-undirected, merged-loopless, spread-length, spread-at, spread-number, spread-one}
 use Rattle.theory.proofs.Units.{KeepsTies, grouping, one-mask-keeps, tied-score}
+use Rattle.theory.proofs.Assignments.{masks-above-0, masks-set}
 use Rattle.theory.proofs.PuttingBack.{Ready}
 use Rattle.theory.proofs.SearchAll.{unstopped, FollowsAll, follows-steps, follows-stopped, follows-ended, follows-same}
 use Rattle.theory.proofs.Decomposition.{decomposed, decompose-cheapest, larger-no-dearer, larger-same, decompose-follows}
-
--- there is a mask
-masks-above-0 : (s : Settings) (ps : List Piece) → Valid s ps → 0 < s .masks
-masks-above-0 s ps v = omega (arith, settings-facts s (valid-sound s ps v .settings) .masks .low)
 
 -- ---- The units of a layer
 
@@ -71,14 +66,16 @@ module _ (s : Settings) (ps : List Piece) where
   spread-ties : (budget : ℕ) → KeepsTies s ps (maskOf (spreadMasks budget))
   spread-ties budget = one-mask-keeps s ps _ (spread-one (unitOf s ps) (length ps) (grouping s ps) (onUnits budget .masks))
 
-  -- what masks that keep ties cost, and what those reached cost
-  cost-is : (masks : List ℕ) → KeepsTies s ps (maskOf masks) → assignmentCost s ps masks ≡ costIn (s .weight) g (maskOf masks) us
-  cost-is masks ties = tied-score s ps (s .weight) masks ties
+  -- what masks below K that keep ties cost, and what those reached cost
+  module _ (valid : Valid s ps) where
+    cost-is : (masks : List ℕ) → ((i : ℕ) → i < length ps → maskOf masks i < s .masks) → KeepsTies s ps (maskOf masks)
+        → assignmentCost s ps masks ≡ costIn (s .weight) g (maskOf masks) us
+    cost-is masks below ties = tied-score s ps (s .weight) masks (masks-set s ps valid masks below) ties
 
-  reached-cost : (budget : ℕ) → assignmentCost s ps (spreadMasks budget) ≡ costIn (s .weight) g (maskOf (onUnits budget .masks)) us
-  reached-cost budget =
-      cost-is (spreadMasks budget) (spread-ties budget)
-      ∙ cost-same (s .weight) g _ _ us (λ u m. spread-number (unitOf s ps) (length ps) (grouping s ps) (onUnits budget .masks) m)
+    reached-cost : (budget : ℕ) → assignmentCost s ps (spreadMasks budget) ≡ costIn (s .weight) g (maskOf (onUnits budget .masks)) us
+    reached-cost budget =
+        cost-is (spreadMasks budget) (spread-below (masks-above-0 s ps valid) budget) (spread-ties budget)
+        ∙ cost-same (s .weight) g _ _ us (λ u m. spread-number (unitOf s ps) (length ps) (grouping s ps) (onUnits budget .masks) m)
 
 -- ---- Reports
 
@@ -213,14 +210,14 @@ module _ {s₁ s₂ : Settings} (alike : Alike s₁ s₂) (ps : List Piece) wher
         let ended = best-iff (reached s₁ ps .stopped) .0 e in
         let least = decompose-cheapest (s₁ .masks) (s₁ .weight) pos (both-ways s₁ ps) (units-ready s₁ ps) (s₁ .budget) ended (maskOf rival)
         (λ u m. a .below u (number-in (unitOf s₁ ps) (length ps) m .0)) in
-        omega (arith, reached-cost s₁ ps (s₁ .budget), cost-is s₁ ps rival (a .ties))
+        omega (arith, reached-cost s₁ ps valid₁ (s₁ .budget), cost-is s₁ ps valid₁ rival (a .below) (a .ties))
 
     no-dearer : run s₂ ps .cost ≤ run s₁ ps .cost
     unfolding run
     no-dearer =
         let moved : run s₂ ps .cost ≡ assignmentCost s₁ ps (spreadMasks s₁ ps (s₂ .budget)) = λ i. scoreOf (alike-weight i) (graph-same i) (second i .masks) (length ps) .cost in
         let less = larger-no-dearer (s₁ .masks) (s₁ .weight) pos (both-ways s₁ ps) (units-ready s₁ ps) (alike .budget) in
-        omega (arith, reached-cost s₁ ps (s₁ .budget), reached-cost s₁ ps (s₂ .budget))
+        omega (arith, reached-cost s₁ ps valid₁ (s₁ .budget), reached-cost s₁ ps valid₁ (s₂ .budget))
 
     pub demand3 : Demand3 s₁ s₂ ps (run s₁ ps) (run s₂ ps)
     demand3 = record {

@@ -1,6 +1,7 @@
 -- Laws of the rules, by subject.
 pub mod Each
 pub mod Cost
+pub mod HalfDone
 pub mod Score
 pub mod Peeling
 pub mod PuttingBack
@@ -19,7 +20,7 @@ pub mod SameEdges
 pub mod Parts
 pub mod Merging
 pub mod Units
-pub mod Demand3
 pub mod Assignments
+pub mod Demand3
 pub mod Untied
 pub mod Results

@@ -1,4 +1,4 @@
--- The score of masks is the cost among all vertices (`score-cost`), and the sum of what each place adds in a search is the cost among the component's
+-- The score of masks that are all set is the cost among all vertices (`score-cost`), and the sum of what each place adds in a search is the cost among the component's
 -- vertices (`total-cost`), in whatever order they stand. Both sums put one vertex after the others at a time, so each follows from the law that one
 -- more vertex at the end costs what its edges to the earlier ones do (`cost-snoc`). A component's masks, put down at its vertices, are found
 -- there again and change no other vertex.
@@ -11,7 +11,7 @@ use lib.ListN.{length, getD, set, length-set, length-map, List·getD-append}
 use lib.Seq.{getD-set-same, getD-set-other, getD-append-seam}
 use Rattle.rules.specs.Basics.{given, sumTo, sumOf, sumPairs, upFrom, upTo}
 use Rattle.rules.specs.Edges.{Graph}
-use Rattle.rules.specs.Score.{maskOf, sameMask, conflictsOf, stitchesOf, scoreOf, pairCost}
+use Rattle.rules.specs.Score.{maskOf, sameMask, costOf, scoreOf, pairCost}
 use Rattle.rules.specs.Search.{localGraph, added, totalAfter, total}
 use Rattle.rules.specs.Decomposition.{putMasks}
 use Rattle.rules.proofs.Edges.{Undirected}
@@ -19,6 +19,7 @@ use Rattle.rules.proofs.Lists.{_∈_, here, later, set-each, Distinct, length-u
 use Rattle.rules.proofs.Tests.{by-test}
 use Rattle.theory.proofs.Cost.{edgeCost, crossCost, costIn, cost-snoc}
 use Rattle.theory.proofs.Each.{Each, getD-map}
+use Rattle.theory.proofs.HalfDone.{AllSet, whole-conflicts, whole-stitches}
 
 -- ---- Sums by number
 
@@ -58,10 +59,11 @@ module _ (W : ℕ) {g : Graph} (undirected : Undirected g) where
       ap₂ _+_ (pairs-cost a n) (sum-upTo (edgeCost W g a n) n)
       ∙ sym (ap (costIn W g a) (upTo-snoc n) ∙ cost-snoc W undirected a (upTo n) n)
 
-  pub score-cost : (masks : List ℕ) (n : ℕ) → scoreOf W g masks n .cost ≡ costIn W g (maskOf masks) (upTo n)
-  unfolding scoreOf conflictsOf stitchesOf pairCost
-  score-cost masks n =
-      pairs-weighted W (λ u v. given (sameMask masks u v) (g .conflicts u v)) (λ u v. given (not (sameMask masks u v)) (g .stitches u v))
+  pub score-cost : (masks : List ℕ) (n : ℕ) → AllSet n masks → scoreOf W g masks n .cost ≡ costIn W g (maskOf masks) (upTo n)
+  unfolding scoreOf pairCost
+  score-cost masks n all =
+      ap₂ (costOf W) (whole-conflicts g masks n all) (whole-stitches g masks n all)
+      ∙ pairs-weighted W (λ u v. given (sameMask masks u v) (g .conflicts u v)) (λ u v. given (not (sameMask masks u v)) (g .stitches u v))
       (λ u v. pairCost W g u v (maskOf masks u) (maskOf masks v))
       (λ u v. by-test (sameMask masks u v) (λ e. rw e (omega arith)) (λ e. rw e (omega arith))) n
       ∙ pairs-cost (maskOf masks) n

@@ -1,7 +1,7 @@
 -- Units. They are the components of the graph of ties, so the laws of Components.antt say what they are: a partition of the pieces, and just the closure of
 -- the ties. A piece's unit number is the lowest piece of its unit, the same for two pieces exactly if ties connect them. What ties keep, units keep
--- (`unit-keeps`): the masks of a rival, and the shape, so that no conflict edge lies inside a unit. So for masks that keep ties the score over the pieces is
--- the cost over the graph of units (`tied-score`).
+-- (`unit-keeps`): the masks of a rival, and the shape, so that no conflict edge lies inside a unit. So for masks that are all set and keep ties the score over the pieces
+-- is the cost over the graph of units (`tied-score`).
 use mathlib.Core.Bool.{true}
 use mathlib.Core.List.{List}
 use mathlib.Core.Path.{_≡_, refl, sym, ap, _∙_}
@@ -22,6 +22,7 @@ use Rattle.rules.proofs.Tests.{by-test}
 use Rattle.theory.proofs.Reach.{Symmetric, Linked}
 use Rattle.theory.proofs.Components.{Partition, components-partition}
 use Rattle.theory.proofs.Cost.{costIn}
+use Rattle.theory.proofs.HalfDone.{AllSet}
 use Rattle.theory.proofs.Score.{score-cost}
 use Rattle.theory.proofs.Parts.{InPart, part-of, part-lower, part-again, part-joined, part-linked, linked-keeps}
 use Rattle.theory.proofs.Merging.{Grouping, OneMask, merged-cost}
@@ -53,10 +54,6 @@ module _ (s : Settings) (ps : List Piece) where
     lower = λ i l. part-lower ties-symmetric units-partition rising (in-upTo (length ps) i .1 l);
     again = λ i l. part-again ties-symmetric units-partition rising (in-upTo (length ps) i .1 l);
   }
-
-  -- the first piece is the lowest of its unit
-  pub unit-first : 0 < length ps → unitOf s ps 0 ≡ 0
-  unit-first l = omega (arith, grouping .lower 0 l)
 
   -- a tie is an edge of the graph of ties
   tie-joined : (i j : ℕ) → joined (tieGraph s ps) i j ≡ tied s (pieceAt ps i) (pieceAt ps j)
@@ -93,10 +90,10 @@ module _ (s : Settings) (ps : List Piece) where
       = unit-keeps (λ i. pieceAt ps i .shape) (λ i j _ _ t. tie-test s (pieceAt ps i) (pieceAt ps j) .0 t .shape) i j l k e in
       rw (eq-eqb (pieceAt ps i .shape) (pieceAt ps j .shape) shapes)
 
-  -- for masks that keep ties the score over pieces is the cost over units
-  pub tied-score : (W : ℕ) (masks : List ℕ) → KeepsTies (maskOf masks)
+  -- for masks that are all set and keep ties the score over pieces is the cost over units
+  pub tied-score : (W : ℕ) (masks : List ℕ) → AllSet (length ps) masks → KeepsTies (maskOf masks)
       → scoreOf W (graphOf s ps) masks (length ps) .cost
       ≡ costIn W (mergedGraph (unitOf s ps) (length ps) (graphOf s ps)) (maskOf masks) (unitNumbers (unitOf s ps) (length ps))
-  tied-score W masks ties =
-      score-cost W (undirected s ps) masks (length ps)
+  tied-score W masks all ties =
+      score-cost W (undirected s ps) masks (length ps) all
       ∙ merged-cost (unitOf s ps) (length ps) W (undirected s ps) (maskOf masks) (one-mask (maskOf masks) ties) no-conflict-inside grouping

@@ -3,6 +3,7 @@ use borrow.Author.Needs.{needs}
 use mathlib.Core.Path.{refl}
 use Rattle.rules.proofs.Ranges.{settings-facts}
 use Rattle.layout.proofs.PieceLaws.{valid-flat}
+use Rattle.adjacency.proofs.AdjacencyLaws.{conflicts-both-ways, stitches-both-ways}
 use Rattle.decomposer.proofs.RunLaws.{layer-words, unit-places, found-few, found-grouping, after-size, run-same, run-against}
 use Rattle.decomposer.proofs.run.decompose.Statement.{statement}
 use Rattle.decomposer.proofs.run.decompose.Tie as tie
@@ -45,7 +46,13 @@ score-words-requires c κs =
     let adjacency = built done .layer-units .ensures .0 in
     let numbered = built done .layer-units .ensures .1 in (
       settings-facts _ (f .settings) .weight .high,
-      (f .count, after-size _ _ _ (start .pre .0) adjacency numbered (start .pre .1) (done .decompose-units .ensures) (wide .spread-masks .ensures)),
+      (
+        f .count,
+        (
+          after-size _ _ _ (start .pre .0) adjacency numbered (start .pre .1) (done .decompose-units .ensures) (wide .spread-masks .ensures),
+          (conflicts-both-ways adjacency, stitches-both-ways adjacency),
+        ),
+      ),
     )
 
 verdict-of-requires : tie.Need-verdict-of-requires

@@ -1,12 +1,14 @@
 -- `judge_masks`. The invariant: all masks before i pass. Assumes nothing.
-use mathlib.Core.Path.{_≡_, refl, sym}
+use borrow.Author.Needs.{needs}
+use mathlib.Core.Path.{_≡_, refl, sym, _∙_}
 use Prim.Native.Nat.{_-_, _≤_}
 use native.Mathlib.Omega.{arith}
-use borrow.Author.Tests.{lt-ltb, le-ltb}
-use lib.ListN.{length, getD}
+use lib.ListN.{length}
 use Rattle.rules.specs.Questions.{done, askEach}
 use Rattle.rules.proofs.Outcomes.{each-next, each-refused}
+use Rattle.rules.proofs.Tests.{passed, failed}
 use Rattle.scoring.specs.ScoreWords.{maskQuestion}
+use Rattle.scoring.proofs.ScoreLaws.{mask-asked}
 use Rattle.scoring.proofs.flat.judge_masks.Statement.{statement}
 use Rattle.scoring.proofs.flat.judge_masks.Tie as tie
 
@@ -20,20 +22,21 @@ loop-holds : tie.Need-loop-holds Inv-loop μ-loop
 unfolding askEach
 loop-holds c = (omega arith, refl)
 
-shared-slice-read-mask : tie.Need-shared-slice-read-mask Inv-loop μ-loop
-shared-slice-read-mask c = omega arith
+shared-slice-read-allowed : tie.Need-shared-slice-read-allowed Inv-loop μ-loop
+shared-slice-read-allowed c = omega arith
 
-cast-mask : tie.Need-cast-mask Inv-loop μ-loop
-cast-mask c = omega (arith, c .shared-slice-known .given (c .before .before .loop .i))
+allowed-requires : tie.Need-allowed-requires Inv-loop μ-loop
+allowed-requires c κs = search needs
 
 cast-t10 : tie.Need-cast-t10 Inv-loop μ-loop
 cast-t10 c = omega arith
 
 returns : tie.Need-returns Inv-loop μ-loop
 returns c =
-    let at = c .before .before .before .loop in
-    let a = c .before .before .before .before .args in
-    sym (each-refused _ _ {i = at .i} (omega arith) (at .inv .1) (rw (le-ltb (getD (a .masks .now) (at .i) 0) (a .limit) (omega arith))))
+    let asked = c .before in
+    let at = asked .before .before .before in
+    let a = at .before .before .args in
+    sym (each-refused _ _ {i = at .loop .i} (omega arith) (at .loop .inv .1) (mask-asked (a .limit) (a .masks .now) (at .loop .i) ∙ rw (failed _ _ (asked .allowed .ensures) (c .if1 .taken))))
 
 add-i : tie.Need-add-i Inv-loop μ-loop
 add-i c = omega arith
@@ -43,13 +46,14 @@ loop-less c = omega arith
 
 loop-again : tie.Need-loop-again Inv-loop μ-loop
 loop-again c =
-    let at = c .before .before .before .loop in
-    let a = c .before .before .before .before .args in
-    (omega arith, each-next _ _ (at .inv .1) (rw (lt-ltb (getD (a .masks .now) (at .i) 0) (a .limit) (omega arith))))
+    let asked = c .before in
+    let at = asked .before .before .before in
+    let a = at .before .before .args in
+    (omega arith, each-next _ _ (at .loop .inv .1) (mask-asked (a .limit) (a .masks .now) (at .loop .i) ∙ rw (passed _ _ (asked .allowed .ensures) (c .if1 .left))))
 
 returns-2 : tie.Need-returns-2 Inv-loop μ-loop
 returns-2 c =
-    let e : c .before .loop .i ≡ length (c .before .before .args .masks .now) = omega arith in
+    let e : c .before .loop .i ≡ length (c .before .before .before .args .masks .now) = omega arith in
     sym (rw e at (c .before .loop .inv .1))
 
 pub judge-masks-spec : {M : Type 1} → statement M
@@ -59,8 +63,8 @@ judge-masks-spec =
     Inv-loop
     μ-loop
     loop-holds
-    shared-slice-read-mask
-    cast-mask
+    shared-slice-read-allowed
+    allowed-requires
     cast-t10
     returns
     add-i

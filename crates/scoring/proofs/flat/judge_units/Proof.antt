@@ -1,48 +1,72 @@
--- `judge_units`. The invariant: all pieces before i have the masks of their units. Assumes nothing.
-use mathlib.Core.Path.{_≡_, refl, sym}
-use Prim.Native.Nat.{_-_, _≤_}
+-- `judge_units`. The invariant: all pieces before i pass, and what is noted of a unit is the mask of its lowest set piece among them. Assumes nothing.
+use mathlib.Core.List.{List}
+use mathlib.Core.Path.{_≡_, refl, sym, ap, _∙_}
+use Prim.Native.Nat.{ℕ, _-_, _≤_, _<_}
 use native.Mathlib.Omega.{arith}
-use borrow.Author.Tests.{eq-eqb, ne-eqb}
 use lib.ListN.{length}
+use Rattle.rules.specs.Score.{maskOf}
 use Rattle.rules.specs.Questions.{done, askEach}
 use Rattle.rules.proofs.Outcomes.{each-next, each-refused}
+use Rattle.rules.proofs.Tests.{passed, failed}
 use Rattle.adjacency.specs.UnitGraph.{unitAt}
 use Rattle.scoring.specs.ScoreWords.{unitQuestion}
+use Rattle.scoring.proofs.UnitMaskLaws.{Noted, noted-start, fits-question, noted-next, after-length}
 use Rattle.scoring.proofs.flat.judge_units.Statement.{statement}
 use Rattle.scoring.proofs.flat.judge_units.Tie as tie
 
+-- what holds before piece i
+record Inv (units masks noted : List ℕ) (i : ℕ) : Type 0 where
+  inside : i ≤ length masks
+  passes : askEach (unitQuestion (unitAt units) (length masks) masks) i ≡ done tt
+  size : length noted ≡ 512
+  right : (u : ℕ) → u < 512 → Noted (unitAt units) masks i u (maskOf noted u)
+
 abbrev Inv-loop : tie.InvT-loop
-Inv-loop units masks i₀ i = (i ≤ length masks) × (askEach (unitQuestion (unitAt units) masks) i ≡ done tt)
+Inv-loop units masks noted₀ i₀ noted i = Inv units masks noted i
 
 abbrev μ-loop : tie.MeasureT-loop
-μ-loop units masks i₀ i = length masks - i
+μ-loop units masks noted₀ i₀ noted i = length masks - i
 
 loop-holds : tie.Need-loop-holds Inv-loop μ-loop
 unfolding askEach
-loop-holds c = (omega arith, refl)
+loop-holds c =
+    let a = c .before .args in
+    record { inside = omega arith; passes = refl; size = refl; right = noted-start (unitAt (a .units .now)) (a .masks .now) }
 
-shared-slice-read-if1 : tie.Need-shared-slice-read-if1 Inv-loop μ-loop
-shared-slice-read-if1 c = omega arith
+mul-fits-noted : tie.Need-mul-fits-noted Inv-loop μ-loop
+mul-fits-noted c = omega arith
 
-mul-if1 : tie.Need-mul-if1 Inv-loop μ-loop
-mul-if1 c = omega arith
+element-copy-out-fits-noted : tie.Need-element-copy-out-fits-noted Inv-loop μ-loop
+element-copy-out-fits-noted c = omega arith
 
-element-copy-out-if1 : tie.Need-element-copy-out-if1 Inv-loop μ-loop
-element-copy-out-if1 c = omega arith
+-- a piece's unit is one of the pieces
+small : (c : tie.In-loop Inv-loop μ-loop) →
+    let start = c .before .before .before in
+    unitAt (start .args .units .now) (c .before .loop .i) < 512
+small c =
+    let start = c .before .before .before in
+    omega (arith, start .pre .1 (c .before .loop .i) (c .loop-test .taken), start .pre .0)
 
-cast-if1 : tie.Need-cast-if1 Inv-loop μ-loop
-cast-if1 c = omega (arith, c .before .before .before .before .pre .1 (c .before .before .before .loop .i) (omega arith), c .before .before .before .before .pre .0)
+cast-fits-noted : tie.Need-cast-fits-noted Inv-loop μ-loop
+cast-fits-noted c = omega (arith, small (c .before .before))
 
-shared-slice-read-if1-2 : tie.Need-shared-slice-read-if1-2 Inv-loop μ-loop
-shared-slice-read-if1-2 c = c .before .before .before .before .before .pre .1 (c .before .before .before .before .loop .i) (omega arith)
+shared-slice-read-fits-noted : tie.Need-shared-slice-read-fits-noted Inv-loop μ-loop
+shared-slice-read-fits-noted c = omega arith
 
-cast-t15 : tie.Need-cast-t15 Inv-loop μ-loop
-cast-t15 c = omega arith
+fits-noted-requires : tie.Need-fits-noted-requires Inv-loop μ-loop
+fits-noted-requires c κs = small (c .before .before .before)
+
+cast-t16 : tie.Need-cast-t16 Inv-loop μ-loop
+cast-t16 c = omega arith
 
 returns : tie.Need-returns Inv-loop μ-loop
 returns c =
-    let at = c .before .before .before .before .before .loop in
-    sym (each-refused _ _ {i = at .i} (omega arith) (at .inv .1) (rw (ne-eqb _ _ (c .if1 .taken))))
+    let asked = c .before in
+    let turn = asked .before .before .before .before in
+    let at = turn .before in
+    let a = at .before .before .args in
+    let same = fits-question (unitAt (a .units .now)) (a .masks .now) (at .loop .i) (turn .loop-test .taken) (at .loop .noted) (at .loop .inv .right _ (small turn)) in
+    sym (each-refused _ _ {i = at .loop .i} (turn .loop-test .taken) (at .loop .inv .passes) (rw (← same, failed _ _ (asked .fits-noted .ensures .0) (c .if1 .taken))))
 
 add-i : tie.Need-add-i Inv-loop μ-loop
 add-i c = omega arith
@@ -52,13 +76,26 @@ loop-less c = omega arith
 
 loop-again : tie.Need-loop-again Inv-loop μ-loop
 loop-again c =
-    let at = c .before .before .before .before .before .loop in
-    (omega arith, each-next _ _ (at .inv .1) (rw (eq-eqb _ _ (c .if1 .left))))
+    let asked = c .before in
+    let turn = asked .before .before .before .before in
+    let at = turn .before in
+    let a = at .before .before .args in
+    let units = unitAt (a .units .now) in
+    let masks = a .masks .now in
+    let same = fits-question units masks (at .loop .i) (turn .loop-test .taken) (at .loop .noted) (at .loop .inv .right _ (small turn)) in
+    let next = noted-next units masks (at .loop .i) (turn .loop-test .taken) (at .loop .noted) (omega (arith, small turn, at .loop .inv .size)) (at .loop .inv .right) (small turn) in
+    record {
+      inside = omega arith;
+      passes = each-next _ _ (at .loop .inv .passes) (rw (← same, passed _ _ (asked .fits-noted .ensures .0) (c .if1 .left)));
+      size = ap length (asked .fits-noted .ensures .1) ∙ after-length (at .loop .noted) (units (at .loop .i)) (maskOf masks (at .loop .i)) ∙ at .loop .inv .size;
+      right = λ u l. rw (asked .fits-noted .ensures .1) (next u l);
+    }
 
 returns-2 : tie.Need-returns-2 Inv-loop μ-loop
 returns-2 c =
-    let e : c .before .loop .i ≡ length (c .before .before .args .masks .now) = omega arith in
-    sym (rw e at (c .before .loop .inv .1))
+    let at = c .before in
+    let e : at .loop .i ≡ length (at .before .before .args .masks .now) = omega (arith, at .loop .inv .inside) in
+    sym (rw e at (at .loop .inv .passes))
 
 pub judge-units-spec : {M : Type 1} → statement M
 judge-units-spec =
@@ -67,12 +104,12 @@ judge-units-spec =
     Inv-loop
     μ-loop
     loop-holds
-    shared-slice-read-if1
-    mul-if1
-    element-copy-out-if1
-    cast-if1
-    shared-slice-read-if1-2
-    cast-t15
+    mul-fits-noted
+    element-copy-out-fits-noted
+    cast-fits-noted
+    shared-slice-read-fits-noted
+    fits-noted-requires
+    cast-t16
     returns
     add-i
     loop-less

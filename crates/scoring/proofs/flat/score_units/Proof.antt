@@ -5,6 +5,7 @@ use native.Mathlib.Omega.{arith}
 use Rattle.rules.specs.Questions.{done}
 use Rattle.rules.proofs.Ranges.{settings-facts}
 use Rattle.layout.specs.Judged.{judgement}
+use Rattle.adjacency.proofs.AdjacencyLaws.{conflicts-both-ways, stitches-both-ways}
 use Rattle.layout.proofs.PieceLaws.{valid-flat}
 use Rattle.scoring.proofs.ScoreLaws.{unit-masked, split-asked, words-score}
 use Rattle.scoring.proofs.flat.score_units.Statement.{statement}
@@ -37,7 +38,8 @@ score-words-requires c κs =
     let built = c .before .before .before .before .before .before in
     let start = built .before .before .before .before .before in
     let f = valid-flat _ _ _ (start .pre .0) in
-    (settings-facts _ (f .settings) .weight .high, (f .count, start .pre .1))
+    let words = built .layer-units .ensures .0 in
+    (settings-facts _ (f .settings) .weight .high, (f .count, (start .pre .1, (conflicts-both-ways words, stitches-both-ways words))))
 
 returns-2 : tie.Need-returns-2
 returns-2 c =
