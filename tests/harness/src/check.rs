@@ -3,7 +3,7 @@
 use crate::compare::{compare, field, Case};
 use crate::input::Input;
 use crate::layer::Layer;
-use crate::reference::{self, Answer, Mutation};
+use crate::reference::{self, Answer};
 use crate::shrink;
 use crate::shrink_stream;
 use crate::subject::Subject;
@@ -11,7 +11,8 @@ use crate::tally::{Family, Tally};
 
 /// A difference, on the smallest input that was found for it.
 pub struct Finding {
-    pub input: Input<Vec<u8>>,
+    /// How much input that is.
+    pub size: String,
     pub report: String,
 }
 
@@ -117,7 +118,7 @@ impl Checker {
     fn smallest(&self, case: &Case) -> Finding {
         let differs = |input| compare(self.subject, &with_input(case, input)).is_err();
         let input = match &case.input {
-            Input::Layer(text) => Input::Layer(smallest_text(text, &|text| {
+            Input::Layer(text) => Input::Layer(shrink::smallest_text(text, &|text| {
                 differs(Input::Layer(text.to_vec()))
             })),
             Input::Stream { settings, stream } => {
@@ -134,14 +135,8 @@ impl Checker {
             fault.unwrap_or_default(),
             input.shown()
         );
-        Finding { input, report }
-    }
-}
-
-fn smallest_text(text: &[u8], differs: &dyn Fn(&[u8]) -> bool) -> Vec<u8> {
-    match reference::read(text, Mutation::None) {
-        Ok(layer) => shrink::layer(&layer, &|layer| differs(&layer.text())).text(),
-        Err(_) => shrink::text(text, differs),
+        let size = input.size();
+        Finding { size, report }
     }
 }
 
@@ -180,13 +175,15 @@ fn fault_of_more_budget(less: &[u8], more: &[u8]) -> Option<&'static str> {
 fn broken(layer: &Layer, fault: &str) -> Finding {
     let input = Input::Layer(layer.text());
     let report = format!("the result {fault}\n{}", input.shown());
-    Finding { input, report }
+    let size = input.size();
+    Finding { size, report }
 }
 
 #[cfg(test)]
 mod tests {
     use super::*;
     use crate::layer::{Piece, Settings};
+    use crate::reference::Mutation;
 
     fn result(verdict: &str, cost: u64) -> Vec<u8> {
         format!("verdict={verdict}\ncost={cost}\n").into_bytes()

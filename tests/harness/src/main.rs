@@ -1,4 +1,5 @@
-//! Compares the job loader's call with a plain implementation of the rules. See README.md.
+//! Compares the job loader's calls and the program `score` with a plain implementation of the rules. See
+//! README.md.
 
 mod check;
 mod compare;
@@ -9,6 +10,7 @@ mod layer;
 mod random;
 mod reference;
 mod rounds;
+mod scoring;
 mod selftest;
 mod shrink;
 mod shrink_stream;
@@ -24,11 +26,15 @@ use std::time::Instant;
 
 use check::{Checker, Finding};
 use rounds::{limits, round, stream_limits};
+use scoring::{Program, Scorer};
 use subject::Subject;
 
 /// The seed and the rounds of the gate.
 const SEED: u64 = 1;
 const ROUNDS: u64 = 3_200;
+
+/// The rounds of scoring.
+const SCORE_ROUNDS: u64 = 500;
 
 /// Callers at once, and the rounds of each.
 const CALLERS: u64 = 4;
@@ -37,7 +43,8 @@ const CALLER_ROUNDS: u64 = 2;
 /// The stack that is said to be enough for a call.
 const STACK: usize = 1 << 20;
 
-const USAGE: &str = "usage: harness selftest | gate | run --seed N --seconds T | vectors FOLDER...";
+const USAGE: &str = "usage: harness selftest | gate | scores | vectors FOLDER...
+       harness run --seed N --seconds T | run-scores --seed N --seconds T";
 
 fn main() -> ExitCode {
     let arguments: Vec<String> = std::env::args().skip(1).collect();
@@ -61,7 +68,9 @@ fn carry_out(arguments: &[String]) -> Outcome {
     match words[..] {
         ["selftest"] => selftest(),
         ["gate"] => gate(),
+        ["scores"] => scores(),
         ["run", "--seed", seed, "--seconds", seconds] => run(seed, seconds),
+        ["run-scores", "--seed", seed, "--seconds", seconds] => run_scores(seed, seconds),
         ["vectors", _, ..] => {
             let folders: Vec<&Path> = words[1..].iter().map(Path::new).collect();
             vectors::vectors(&folders)
@@ -83,7 +92,7 @@ fn wait(thread: JoinHandle<Outcome>) -> Outcome {
 }
 
 fn selftest() -> Outcome {
-    if selftest::selftest(SEED, ROUNDS) {
+    if selftest::selftest(SEED, ROUNDS, SCORE_ROUNDS) {
         Ok(String::from("every fault is found"))
     } else {
         Err(String::from("the gate's work does not find every fault"))
@@ -125,28 +134,77 @@ fn at_once() -> Result<(), String> {
     Ok(())
 }
 
+/// A fixed amount of scoring.
+fn scores() -> Outcome {
+    let mut checker = score_checker()?;
+    scoring::every_list(&mut checker).map_err(|finding| finding.report)?;
+    for number in 0..SCORE_ROUNDS {
+        score_round(&mut checker, SEED, number)?;
+    }
+    scoring::limits(&mut checker).map_err(|finding| finding.report)?;
+    let summary = checker.tally.summary();
+    if checker.tally.is_complete() {
+        Ok(summary)
+    } else {
+        Err(format!("too little occurred: {summary}"))
+    }
+}
+
+fn score_checker() -> Result<scoring::Checker, String> {
+    let scorer = Scorer::Program(Program::new()?);
+    Ok(scoring::Checker::new(scorer, Subject::Library))
+}
+
 /// Rounds of another seed until the time is over.
 fn run(seed: &str, seconds: &str) -> Outcome {
-    let number = |word: &str| word.parse::<u64>().map_err(|_| String::from(USAGE));
-    let (seed, seconds) = (number(seed)?, number(seconds)?);
-    let start = Instant::now();
+    let seed = number(seed)?;
     let mut checker = Checker::new(Subject::Library);
+    for_seconds(number(seconds)?, |number| {
+        numbered_round(&mut checker, seed, number)?;
+        Ok(checker.tally.summary())
+    })
+}
+
+/// The same for scoring.
+fn run_scores(seed: &str, seconds: &str) -> Outcome {
+    let seed = number(seed)?;
+    let mut checker = score_checker()?;
+    for_seconds(number(seconds)?, |number| {
+        score_round(&mut checker, seed, number)?;
+        Ok(checker.tally.summary())
+    })
+}
+
+fn number(word: &str) -> Result<u64, String> {
+    word.parse().map_err(|_| String::from(USAGE))
+}
+
+/// Rounds until the time is over, with a line for each minute. The last summary is handed over.
+fn for_seconds(seconds: u64, mut round: impl FnMut(u64) -> Outcome) -> Outcome {
+    let start = Instant::now();
     let mut minutes = 0;
     for number in 0.. {
-        numbered_round(&mut checker, seed, number)?;
+        let summary = round(number)?;
         let elapsed = start.elapsed().as_secs();
         if elapsed >= seconds {
-            break;
+            return Ok(summary);
         }
         if elapsed / 60 > minutes {
             minutes = elapsed / 60;
-            println!("round {number}: {}", checker.tally.summary());
+            println!("round {number}: {summary}");
         }
     }
-    Ok(checker.tally.summary())
+    unreachable!("there is always another number")
 }
 
 fn numbered_round(checker: &mut Checker, seed: u64, number: u64) -> Result<(), String> {
-    let told = |finding: Finding| format!("seed {seed}, round {number}: {}", finding.report);
-    round(checker, seed, number).map_err(told)
+    round(checker, seed, number).map_err(|finding| told(seed, number, finding))
+}
+
+fn score_round(checker: &mut scoring::Checker, seed: u64, number: u64) -> Result<(), String> {
+    scoring::round(checker, seed, number).map_err(|finding| told(seed, number, finding))
+}
+
+fn told(seed: u64, number: u64, finding: Finding) -> String {
+    format!("seed {seed}, round {number}: {}", finding.report)
 }

@@ -1,6 +1,18 @@
 //! Makes the input of a difference smaller while the difference stays.
 
 use crate::layer::Layer;
+use crate::reference::{self, Mutation};
+
+/// The smallest layer text, as a layer if it is one.
+pub fn smallest_text(start: &[u8], differs: &dyn Fn(&[u8]) -> bool) -> Vec<u8> {
+    match reference::read(start, Mutation::None) {
+        Ok(start) => layer(&start, &|layer| differs(&layer.text())).text(),
+        Err(_) => text(start, differs),
+    }
+}
+
+/// The pieces of a layer that stays larger than this are left where they are.
+const MOST_MOVED: usize = 100;
 
 /// Removes pieces and lowers numbers.
 pub fn layer(start: &Layer, differs: &dyn Fn(&Layer) -> bool) -> Layer {
@@ -14,8 +26,10 @@ pub fn layer(start: &Layer, differs: &dyn Fn(&Layer) -> bool) -> Layer {
             differs(&Layer { settings, pieces })
         });
         lower_numbers(&mut smallest, differs, &axes_of);
-        lower_numbers(&mut smallest, differs, &places_of);
-        lower_numbers(&mut smallest, differs, &numbers_of);
+        if smallest.pieces.len() <= MOST_MOVED {
+            lower_numbers(&mut smallest, differs, &places_of);
+            lower_numbers(&mut smallest, differs, &numbers_of);
+        }
         if smallest == before {
             return smallest;
         }
@@ -36,7 +50,7 @@ pub fn text(start: &[u8], differs: &dyn Fn(&[u8]) -> bool) -> Vec<u8> {
     }
 }
 
-fn lines(text: &[u8]) -> Vec<&[u8]> {
+pub fn lines(text: &[u8]) -> Vec<&[u8]> {
     text.split_inclusive(|&byte| byte == b'\n').collect()
 }
 

@@ -142,7 +142,7 @@ impl Tally {
     }
 }
 
-fn named(names: &[&str], counts: &[u64]) -> String {
+pub fn named(names: &[&str], counts: &[u64]) -> String {
     let pairs = names.iter().zip(counts);
     let words: Vec<String> = pairs
         .map(|(name, count)| format!("{name} {count}"))
@@ -150,7 +150,7 @@ fn named(names: &[&str], counts: &[u64]) -> String {
     words.join(", ")
 }
 
-fn counts(numbers: &[usize], refused: &[u64]) -> String {
+pub fn counts(numbers: &[usize], refused: &[u64]) -> String {
     let count = |&number: &usize| format!("{number}: {}", refused[number]);
     numbers.iter().map(count).collect::<Vec<_>>().join(", ")
 }

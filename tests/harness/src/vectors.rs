@@ -1,4 +1,4 @@
-//! Stored layers, streams and scores, through the reference and, but for scores, the library.
+//! Stored layers and streams through the library and the reference, scores through the program and it.
 
 use std::ffi::OsStr;
 use std::fs;
@@ -6,7 +6,8 @@ use std::path::{Path, PathBuf};
 
 use crate::compare::{compare, Case};
 use crate::input::{shown, Input};
-use crate::reference::{self, Answer, Mutation, Refusal};
+use crate::reference::{self, printed, Mutation};
+use crate::scoring::{self, Given, Program, Scorer};
 use crate::subject::Subject;
 
 /// How many results and scores of the first folder agree, or what is different about one that
@@ -82,33 +83,22 @@ fn check(path: &Path, input: Input<Vec<u8>>, expected: &[u8]) -> Result<(), Stri
     };
     let answer = compare(Subject::Library, &case)
         .map_err(|fault| format!("{}: library and reference: {fault}", path.display()))?;
-    same(path, &printed(answer), expected)
+    same(path, &printed(&answer), expected)
 }
 
-/// Scores go through the reference only: the library's call does not score.
 fn check_score(layer: &Path, expected: &[u8]) -> Result<(), String> {
-    let masks = masks(&read(&layer.with_extension("masks"))?)
-        .ok_or_else(|| format!("{}: no list of masks", layer.display()))?;
-    let scored = reference::read(&read(layer)?, Mutation::None)
-        .and_then(|layer| reference::score(&layer, &masks));
-    let text = scored.map(|score| {
-        let (conflicts, stitches, cost) = (score.conflicts, score.stitches, score.cost);
-        format!("conflicts={conflicts}\nstitches={stitches}\ncost={cost}\n").into_bytes()
-    });
-    same(layer, &printed(text), expected)
-}
-
-fn masks(text: &[u8]) -> Option<Vec<u64>> {
-    let text = std::str::from_utf8(text).ok()?;
-    let mask = |line: &str| line.strip_prefix("mask=")?.parse().ok();
-    text.lines().map(mask).collect()
-}
-
-/// What the program `layer` prints for an answer (RULES 12).
-fn printed(answer: Answer) -> Vec<u8> {
-    answer.unwrap_or_else(|Refusal { number, place }| {
-        format!("refused={number},{place}\n").into_bytes()
-    })
+    let masks = layer.with_extension("masks");
+    let given = Given {
+        layer: read(layer)?,
+        masks: read(&masks)?,
+    };
+    if reference::read_masks(&given.masks, Mutation::None).is_none() {
+        return Err(format!("{}: not only mask lines", masks.display()));
+    }
+    let scorer = Scorer::Program(Program::new()?);
+    let answer = scoring::compare(&scorer, &given)
+        .map_err(|fault| format!("{}: program and reference: {fault}", layer.display()))?;
+    same(layer, &printed(&answer), expected)
 }
 
 fn same(layer: &Path, found: &[u8], expected: &[u8]) -> Result<(), String> {

@@ -6,6 +6,7 @@ mod damage;
 mod limits;
 mod lively;
 mod made;
+mod masks;
 mod patches;
 mod streams;
 mod tiles;
@@ -13,10 +14,12 @@ mod wires;
 
 use crate::layer::{Layer, Piece, Settings};
 use crate::random::Random;
+use crate::reference;
 pub use damage::damaged;
 pub use limits::at_limits;
 pub use lively::lively;
 pub use made::made;
+pub use masks::{any_masks, keeping_ties, plain_masks, split_units, stray_masks};
 pub use streams::{damaged_stream, streams_at_limits, whole_stream};
 
 /// A layer of at most `count` pieces, of one of five kinds, with a budget of 0.
@@ -28,6 +31,22 @@ pub fn any_layer(random: &mut Random, count: usize) -> Layer {
         3 => patches::patches(random, count),
         _ => crossings::crossings(random, count),
     }
+}
+
+/// A layer of at most `count` pieces, with ties if one of a few has them.
+pub fn tied_layer(random: &mut Random, count: usize) -> Layer {
+    let is_tied = |layer: &Layer| {
+        let units = reference::units_of(layer);
+        (0..units.len()).any(|piece| units[piece] != piece)
+    };
+    let mut layer = any_layer(random, count);
+    for _ in 0..3 {
+        if is_tied(&layer) {
+            break;
+        }
+        layer = any_layer(random, count);
+    }
+    layer
 }
 
 /// The greatest coordinate.

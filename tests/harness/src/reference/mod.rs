@@ -5,12 +5,16 @@
 
 mod edges;
 mod kinds;
+mod masks;
 mod mutation;
 mod peel;
 mod polygon;
 mod read;
 mod records;
 mod score;
+mod score_kinds;
+#[cfg(test)]
+mod score_tests;
 mod search;
 mod stream;
 #[cfg(test)]
@@ -23,9 +27,11 @@ mod units;
 use crate::layer::Layer;
 use edges::Edges;
 pub use kinds::{kinds, KINDS};
+pub use masks::{is_set, mask_lines, read_masks, UNSET};
 pub use mutation::Mutation;
 pub use read::read;
 pub use score::{least_cost, score, Score};
+pub use score_kinds::{score_kinds, HALF_DONE, SCORE_KINDS};
 pub use stream::read_stream;
 use ties::Graph;
 
@@ -80,6 +86,25 @@ pub fn answer_stream(
     Ok(result_text(&run(&layer, wrong)))
 }
 
+/// What `score` says of a layer text and a text of mask lines. Of a text that has other lines the
+/// rules say nothing.
+pub fn answer_score(layer: &[u8], masks: &[u8], wrong: Mutation) -> Option<Answer> {
+    let masks = read_masks(masks, wrong)?;
+    if wrong == Mutation::LongListFirst && masks.len() > 512 {
+        return Some(Err(Refusal::new(7, 0)));
+    }
+    let scored = read(layer, wrong).and_then(|layer| score(&layer, &masks, wrong));
+    Some(scored.map(|score| score.text().into_bytes()))
+}
+
+/// What a program prints for an answer (RULES 12).
+pub fn printed(answer: &Answer) -> Vec<u8> {
+    match answer {
+        Ok(text) => text.clone(),
+        Err(Refusal { number, place }) => format!("refused={number},{place}\n").into_bytes(),
+    }
+}
+
 /// Question 1.
 fn judge_room(result_size: usize, wrong: Mutation) -> Result<(), Refusal> {
     if result_size < RESULT_ROOM - usize::from(wrong == Mutation::BufferOneShorter) {
@@ -104,25 +129,27 @@ pub fn run(layer: &Layer, wrong: Mutation) -> Run {
     );
     let masks: Vec<u64> = units.iter().map(|&unit| of_units[unit]).collect();
     Run {
-        score: score::score_of_edges(&edges, &masks, layer.settings.weight),
+        score: score::score_of_edges(&edges, &masks, layer.settings.weight, wrong),
         masks,
         steps: searched.steps,
         best: searched.best,
     }
 }
 
+/// For each piece of a valid layer the number of its unit.
+pub fn units_of(layer: &Layer) -> Vec<usize> {
+    let edges = Edges::of(layer, Mutation::None);
+    ties::units(layer.pieces.len(), &edges.ties, Mutation::None)
+}
+
 /// The result text (RULES 10).
 fn result_text(run: &Run) -> Vec<u8> {
     let mut text = format!(
-        "verdict={}\nconflicts={}\nstitches={}\ncost={}\nsteps={}\n",
+        "verdict={}\n{}steps={}\n",
         if run.best { "best" } else { "open" },
-        run.score.conflicts,
-        run.score.stitches,
-        run.score.cost,
+        run.score.text(),
         run.steps
     );
-    for mask in &run.masks {
-        text += &format!("mask={mask}\n");
-    }
+    text += &mask_lines(&run.masks);
     text.into_bytes()
 }

@@ -194,6 +194,62 @@ pub enum Mutation {
     StreamResultEnded,
     /// A refused stream clears the buffer.
     StreamRefusalCleared,
+
+    /// Masks are cut to 8 bits.
+    MasksWrapAt8Bits,
+    /// Masks wrap at 32 bits.
+    MasksWrapAt32Bits,
+    /// Masks wrap at 64 bits.
+    MasksWrapAt64Bits,
+    /// A number above 255 is not set either.
+    LargeMasksUnset,
+    /// A list that is too short goes on with pieces that are not set.
+    ShortListFilled,
+    /// A list that is too long is cut.
+    LongListCut,
+    /// No more than 512 masks of a list are looked at.
+    ListCutAt512,
+    /// More than 512 masks are refused before the layer is read.
+    LongListFirst,
+
+    /// 255 is refused.
+    UnsetRefused,
+    /// 254 is let through.
+    NearUnsetPasses,
+    /// The number of masks is let through as a mask.
+    MaskAtLimit,
+    /// Of several masks out of range the last is named.
+    LastMaskNamed,
+
+    /// Masks are compared with the lowest piece of a unit although it is not set.
+    SplitByLowest,
+    /// Pieces that are not set are compared too.
+    UnsetSplits,
+    /// A unit whose lowest piece is not set may be split.
+    SplitSkipped,
+    /// Masks are compared with the highest set piece of a unit.
+    SplitByHighest,
+    /// Masks are compared with those of pieces that are tied directly.
+    SplitByTies,
+    /// Of several pieces that split a unit the last is named.
+    LastSplitNamed,
+    /// Split units are judged before the range of the masks.
+    SplitFirst,
+    /// A piece is through with both before the next one is looked at.
+    PieceByPiece,
+
+    /// Two ends that are not set are a conflict.
+    UnsetConflict,
+    /// A set end and one that is not are a conflict.
+    HalfSetConflict,
+    /// A set end and one that is not are a stitch.
+    HalfSetStitch,
+    /// A piece that is not set counts with the mask of its unit.
+    UnsetFromUnit,
+    /// All edges between two units are counted as one.
+    DoubledEdgesOnce,
+    /// The weight is that of stitches.
+    WeightOnStitches,
 }
 
 impl Mutation {
@@ -292,5 +348,43 @@ impl Mutation {
         Mutation::StreamChanged,
         Mutation::StreamResultEnded,
         Mutation::StreamRefusalCleared,
+    ];
+
+    /// Faults that a score shows: those of edges and ties, then those of scoring alone.
+    pub const OF_SCORES: [Mutation; 34] = [
+        Mutation::ConflictAtSpacing,
+        Mutation::StitchAboveMargin,
+        Mutation::SquaresIn32Bits,
+        Mutation::TieAtMargin,
+        Mutation::TieAcrossShapes,
+        Mutation::PointContactTies,
+        Mutation::TiesIgnored,
+        Mutation::TiesNotCarriedOn,
+        Mutation::MasksWrapAt8Bits,
+        Mutation::MasksWrapAt32Bits,
+        Mutation::MasksWrapAt64Bits,
+        Mutation::LargeMasksUnset,
+        Mutation::ShortListFilled,
+        Mutation::LongListCut,
+        Mutation::ListCutAt512,
+        Mutation::LongListFirst,
+        Mutation::UnsetRefused,
+        Mutation::NearUnsetPasses,
+        Mutation::MaskAtLimit,
+        Mutation::LastMaskNamed,
+        Mutation::SplitByLowest,
+        Mutation::UnsetSplits,
+        Mutation::SplitSkipped,
+        Mutation::SplitByHighest,
+        Mutation::SplitByTies,
+        Mutation::LastSplitNamed,
+        Mutation::SplitFirst,
+        Mutation::PieceByPiece,
+        Mutation::UnsetConflict,
+        Mutation::HalfSetConflict,
+        Mutation::HalfSetStitch,
+        Mutation::UnsetFromUnit,
+        Mutation::DoubledEdgesOnce,
+        Mutation::WeightOnStitches,
     ];
 }

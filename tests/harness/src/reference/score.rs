@@ -1,6 +1,9 @@
 //! The score of masks (RULES 3), and the least cost of a layer by trying everything.
 
+use std::collections::BTreeSet;
+
 use super::edges::Edges;
+use super::masks::{is_set, judge_count, judge_masks, Judged};
 use super::mutation::Mutation;
 use super::ties::units;
 use super::Refusal;
@@ -13,35 +16,93 @@ pub struct Score {
     pub cost: u64,
 }
 
-/// The score of given masks of a valid layer, with questions 7, 8 and 12.
-pub fn score(layer: &Layer, masks: &[u64]) -> Result<Score, Refusal> {
-    if masks.len() != layer.pieces.len() {
-        return Err(Refusal::new(7, 0));
+impl Score {
+    /// The lines that state it, as in a result text.
+    pub fn text(&self) -> String {
+        format!(
+            "conflicts={}\nstitches={}\ncost={}\n",
+            self.conflicts, self.stitches, self.cost
+        )
     }
-    if let Some(piece) = masks.iter().position(|&m| m >= layer.settings.masks) {
-        return Err(Refusal::new(8, piece as u64));
-    }
-    let edges = Edges::of(layer, Mutation::None);
-    let units = units(layer.pieces.len(), &edges.ties, Mutation::None);
-    if let Some(piece) = (0..masks.len()).find(|&piece| masks[piece] != masks[units[piece]]) {
-        return Err(Refusal::new(12, piece as u64));
-    }
-    Ok(score_of_edges(&edges, masks, layer.settings.weight))
 }
 
-pub fn score_of_edges(edges: &Edges, masks: &[u64], weight: u64) -> Score {
-    let conflicts = count(&edges.conflicts, |a, b| masks[a] == masks[b]);
-    let stitches = count(&edges.stitches, |a, b| masks[a] != masks[b]);
+/// The score of given masks of a valid layer, with questions 7, 8 and 12.
+pub fn score(layer: &Layer, masks: &[u64], wrong: Mutation) -> Result<Score, Refusal> {
+    let mut masks = judge_count(masks, layer.pieces.len(), wrong)?;
+    let mut edges = Edges::of(layer, wrong);
+    let units = units(layer.pieces.len(), &edges.ties, wrong);
+    let judged = Judged {
+        limit: layer.settings.masks,
+        units: &units,
+        ties: &edges.ties,
+    };
+    judge_masks(&masks, &judged, wrong)?;
+    match wrong {
+        Mutation::UnsetFromUnit => fill(&mut masks, &units),
+        Mutation::DoubledEdgesOnce => {
+            edges.conflicts = once(&edges.conflicts, &units);
+            edges.stitches = once(&edges.stitches, &units);
+        }
+        _ => {}
+    }
+    Ok(score_of_edges(&edges, &masks, layer.settings.weight, wrong))
+}
+
+/// A fault: pieces that are not set have the mask of another one of their unit.
+fn fill(masks: &mut [u64], units: &[usize]) {
+    let given = masks.to_vec();
+    for (piece, mask) in masks.iter_mut().enumerate() {
+        let of_unit = |&other: &usize| units[other] == units[piece] && is_set(given[other]);
+        *mask = (0..given.len()).find(of_unit).map_or(*mask, |p| given[p]);
+    }
+}
+
+/// A fault: of the edges between two units, only the first is kept.
+fn once(edges: &[(usize, usize)], units: &[usize]) -> Vec<(usize, usize)> {
+    let mut seen = BTreeSet::new();
+    let first = |&&(a, b): &&(usize, usize)| {
+        let (a, b) = (units[a], units[b]);
+        seen.insert((a.min(b), a.max(b)))
+    };
+    edges.iter().filter(first).copied().collect()
+}
+
+/// The score of masks that keep ties, some of which may not be set.
+pub fn score_of_edges(edges: &Edges, masks: &[u64], weight: u64, wrong: Mutation) -> Score {
+    let count = |edges: &[(usize, usize)], counts: fn(u64, u64, Mutation) -> bool| {
+        let counted = |&&(a, b): &&(usize, usize)| counts(masks[a], masks[b], wrong);
+        edges.iter().filter(counted).count() as u64
+    };
+    let conflicts = count(&edges.conflicts, is_conflict);
+    let stitches = count(&edges.stitches, is_stitch);
+    let cost = match wrong {
+        Mutation::WeightOnStitches => conflicts + weight * stitches,
+        _ => weight * conflicts + stitches,
+    };
     Score {
         conflicts,
         stitches,
-        cost: weight * conflicts + stitches,
+        cost,
     }
 }
 
-/// How many of the edges pass a test.
-fn count(edges: &[(usize, usize)], test: impl Fn(usize, usize) -> bool) -> u64 {
-    edges.iter().filter(|&&(a, b)| test(a, b)).count() as u64
+/// Whether a conflict edge with these masks at its ends is counted.
+fn is_conflict(a: u64, b: u64, wrong: Mutation) -> bool {
+    let both_set = is_set(a) && is_set(b);
+    match wrong {
+        Mutation::UnsetConflict => a == b,
+        Mutation::HalfSetConflict => both_set && a == b || is_set(a) != is_set(b),
+        _ => both_set && a == b,
+    }
+}
+
+/// Whether a stitch edge with these masks at its ends is counted.
+fn is_stitch(a: u64, b: u64, wrong: Mutation) -> bool {
+    let both_set = is_set(a) && is_set(b);
+    match wrong {
+        Mutation::HalfSetStitch => a != b,
+        _ => both_set && a != b,
+    }
 }
 
 /// The least cost over all assignments of a valid layer that break no tie. Only for layers of few
@@ -49,7 +110,8 @@ fn count(edges: &[(usize, usize)], test: impl Fn(usize, usize) -> bool) -> u64 {
 pub fn least_cost(layer: &Layer) -> u64 {
     let edges = Edges::of(layer, Mutation::None);
     let keeps_ties = |masks: &[u64]| edges.ties.iter().all(|&(a, b)| masks[a] == masks[b]);
-    let cost = |masks: &[u64]| score_of_edges(&edges, masks, layer.settings.weight).cost;
+    let weight = layer.settings.weight;
+    let cost = |masks: &[u64]| score_of_edges(&edges, masks, weight, Mutation::None).cost;
     // All on one mask breaks no tie.
     let mut masks = vec![0; layer.pieces.len()];
     let mut least = cost(&masks);

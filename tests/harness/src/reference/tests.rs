@@ -1,10 +1,10 @@
-//! The worked cases of RULES 13.
+//! The worked cases of RULES 13, and units.
 
 use super::edges::{is_conflict, is_stitch, is_tie};
 use super::*;
 use crate::layer::{Piece, Settings};
 
-fn layer(masks: u64, budget: u64, pieces: &[[u64; 5]]) -> Layer {
+pub fn layer(masks: u64, budget: u64, pieces: &[[u64; 5]]) -> Layer {
     let piece = |&[shape, x1, y1, x2, y2]: &[u64; 5]| Piece {
         shape,
         x1,
@@ -34,7 +34,7 @@ fn outcome(layer: &Layer) -> (Vec<u64>, [u64; 4], bool) {
 
 const ROW: [[u64; 5]; 3] = [[0, 0, 0, 20, 20], [1, 40, 0, 60, 20], [2, 80, 0, 100, 20]];
 
-const WIRE: [[u64; 5]; 4] = [
+pub const WIRE: [[u64; 5]; 4] = [
     [0, 100, 0, 200, 20],
     [0, 200, 0, 300, 20],
     [1, 100, 90, 161, 110],
@@ -185,7 +185,8 @@ fn rivals_keep_ties() {
     ];
     let layer = layer(2, 100, &pieces);
     let edges = Edges::of(&layer, Mutation::None);
-    assert_eq!(score::score_of_edges(&edges, &[0, 1, 1, 0], 10).cost, 0);
+    let split = score::score_of_edges(&edges, &[0, 1, 1, 0], 10, Mutation::None);
+    assert_eq!(split.cost, 0);
     assert_eq!(outcome(&layer), (vec![0, 0, 1, 0], [1, 0, 10, 5], true));
     assert_eq!(least_cost(&layer), 10);
 }
@@ -223,23 +224,4 @@ fn the_search_finds_the_least_cost() {
         let layer = layer(masks, 1000, pieces);
         assert_eq!(run(&layer, Mutation::None).score.cost, least_cost(&layer));
     }
-}
-
-#[test]
-fn scores() {
-    let layer = layer(2, 0, &WIRE);
-    let found = score(&layer, &[0, 1, 0, 0]).map(|s| (s.conflicts, s.stitches, s.cost));
-    assert_eq!(found, Ok((2, 1, 21)));
-    assert_eq!(score(&layer, &[0, 1, 0]), Err(Refusal::new(7, 0)));
-    assert_eq!(score(&layer, &[0, 1, 2, 2]), Err(Refusal::new(8, 2)));
-}
-
-#[test]
-fn scores_of_ties() {
-    let layer = layer(2, 0, &CHAIN);
-    let found = score(&layer, &[1, 1, 0, 1, 1]).map(|s| (s.conflicts, s.stitches, s.cost));
-    assert_eq!(found, Ok((0, 2, 2)));
-    assert_eq!(score(&layer, &[1, 1, 0, 0, 1]), Err(Refusal::new(12, 3)));
-    assert_eq!(score(&layer, &[1, 0, 0, 0, 0]), Err(Refusal::new(12, 1)));
-    assert_eq!(score(&layer, &[1, 0, 0, 0, 2]), Err(Refusal::new(8, 4)));
 }
