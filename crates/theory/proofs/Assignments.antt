@@ -55,6 +55,10 @@ module _ (s : Settings) (ps : List Piece) (masks : List ℕ) where
   pub whole-half-done : Assignment s ps masks → HalfDone s ps masks
   whole-half-done a = record { size = a .size; whole = masks; assignment = a; extends = λ i l e. refl }
 
+  -- 8 of piece i
+  abbrev belowLimit : ℕ → Bool
+  belowLimit i = not (isSet masks i) || ltb (maskOf masks i) (s .masks)
+
   -- ---- The lowest set piece of a unit
 
   abbrev lowest : ℕ → ℕ
@@ -78,7 +82,7 @@ module _ (s : Settings) (ps : List Piece) (masks : List ℕ) where
 
   module _ (h : HalfDone s ps masks) where
     -- a set piece has the mask of the assignment
-    half-below : (i : ℕ) → i < length ps → (not (isSet masks i) || ltb (maskOf masks i) (s .masks)) ≡ true
+    half-below : (i : ℕ) → i < length ps → belowLimit i ≡ true
     half-below i l =
         by-test (isSet masks i)
         (λ e. rw (e, ← h .extends i l e) (lt-ltb (maskOf (h .whole) i) (s .masks) (h .assignment .below i l)))
@@ -121,20 +125,15 @@ module _ (s : Settings) (ps : List Piece) (masks : List ℕ) where
     ties = λ i j l k e. filled-at i l ∙ ap (λ (u : ℕ). maskOr0 (lowest u)) (tied-unit s ps i j l k e) ∙ sym (filled-at j k);
   }
 
-  module _
-      (below : (i : ℕ) → i < length ps → (not (isSet masks i) || ltb (maskOf masks i) (s .masks)) ≡ true)
-      (fits : (i : ℕ) → i < length ps → fitsUnit (unitOf s ps) (length ps) masks i ≡ true) where
-    filled-extends : Extends (length ps) masks filled
-    filled-extends i l e =
-        let j = lowest (unitOf s ps i) in
-        let one : maskOf masks i ≡ maskOf masks j = eqb-true (maskOf masks i) (maskOf masks j) (rw e at (fits i l)) in
-        let low : ltb (maskOf masks i) (s .masks) ≡ true = rw e at (below i l) in
-        filled-at i l ∙ rw (← one, low)
+  filled-extends : ((i : ℕ) → i < length ps → belowLimit i ≡ true) → ((i : ℕ) → i < length ps → fitsUnit (unitOf s ps) (length ps) masks i ≡ true)
+      → Extends (length ps) masks filled
+  filled-extends below fits i l e =
+      let j = lowest (unitOf s ps i) in
+      let one : maskOf masks i ≡ maskOf masks j = eqb-true (maskOf masks i) (maskOf masks j) (rw e at (fits i l)) in
+      let low : ltb (maskOf masks i) (s .masks) ≡ true = rw e at (below i l) in
+      filled-at i l ∙ rw (← one, low)
 
   -- ---- So masks are scored exactly if they are half done
-
-  abbrev belowLimit : ℕ → Bool
-  belowLimit i = not (isSet masks i) || ltb (maskOf masks i) (s .masks)
 
   asked : (test : ℕ → Bool) (number : ℕ) → askEach (λ i. ask (test i) number (Place.Piece i)) (length ps) ≡ done tt → (i : ℕ) → i < length ps → test i ≡ true
   asked test number e = accepted (ends-each {R = λ _ _. Unit {0}} _ (length ps) (λ i l. ends-ask (test i) number (Place.Piece i) tt)) e
