@@ -1,88 +1,130 @@
-// The layers of the cases, by numbers; each is an array of more records than a case lends.
+// The layers of the cases; each is an array of more records than a layer may have.
+ghost use mathlib.Core.Path.{_≡_};
 ghost use Prim.Native.Nat.{_<_};
+ghost use Rattle.rules.specs.Questions.{pieceFrom};
+ghost use Rattle.record_cases.specs.Layers.{fourRecords, farSquare, recordsOf};
+ghost use Rattle.record_cases.specs.declared.layers.Layer.{Layer};
 use rules::Piece;
 
 // The three squares of RULES 9; those with a piece of no width, one out of range, or one that overlaps; a wire in halves with a piece
 // beside each; squares far apart; and two tied pieces with two neighbours.
-pub const ROW: u32 = 0;
+pub enum Layer {
+    Row,
+    Thin,
+    Outside,
+    Overlap,
+    Wire,
+    Far,
+    Tied,
+}
 
-pub const THIN: u32 = 1;
-
-pub const OUTSIDE: u32 = 2;
-
-pub const OVERLAP: u32 = 3;
-
-pub const WIRE: u32 = 4;
-
-pub const FAR: u32 = 5;
-
-pub const TIED: u32 = 6;
-
-fn piece(shape: u32, x1: u32, y1: u32, x2: u32, y2: u32) -> Piece {
+// The piece that five numbers state: its shape and its corners.
+fn piece(five: [u32; 5]) -> Piece
+    ensures { λ r. ⌜ r ≡ pieceFrom five ⌝ }
+{
     Piece {
-        shape: shape,
-        x1: x1,
-        y1: y1,
-        x2: x2,
-        y2: y2,
+        shape: five[0],
+        x1: five[1],
+        y1: five[2],
+        x2: five[3],
+        y2: five[4],
     }
 }
 
-fn row() -> [Piece; 513] {
-    let mut all = [piece(0, 0, 0, 20, 20); 513];
-    all[1] = piece(1, 40, 0, 60, 20);
-    all[2] = piece(2, 80, 0, 100, 20);
+// Four pieces, and then the first one again.
+fn four_records(a: [u32; 5], b: [u32; 5], c: [u32; 5], d: [u32; 5]) -> [Piece; 513]
+    ensures { λ r. ⌜ r ≡ fourRecords a b c d ⌝ }
+{
+    let mut all = [piece(a); 513];
+    all[1] = piece(b);
+    all[2] = piece(c);
+    all[3] = piece(d);
     all
 }
 
-fn thin() -> [Piece; 513] {
-    let mut all = row();
-    all[1] = piece(1, 40, 0, 40, 20);
-    all
+fn row() -> [Piece; 513]
+    ensures { λ r. ⌜ r ≡ recordsOf Layer.Row ⌝ }
+{
+    four_records(
+        [0, 0, 0, 20, 20],
+        [1, 40, 0, 60, 20],
+        [2, 80, 0, 100, 20],
+        [0, 0, 0, 20, 20],
+    )
 }
 
-fn outside() -> [Piece; 513] {
-    let mut all = row();
-    all[2] = piece(2, 80, 0, 1_000_001, 20);
-    all
+fn thin() -> [Piece; 513]
+    ensures { λ r. ⌜ r ≡ recordsOf Layer.Thin ⌝ }
+{
+    four_records(
+        [0, 0, 0, 20, 20],
+        [1, 40, 0, 40, 20],
+        [2, 80, 0, 100, 20],
+        [0, 0, 0, 20, 20],
+    )
 }
 
-fn overlap() -> [Piece; 513] {
-    let mut all = row();
-    all[2] = piece(0, 10, 10, 30, 30);
-    all
+fn outside() -> [Piece; 513]
+    ensures { λ r. ⌜ r ≡ recordsOf Layer.Outside ⌝ }
+{
+    four_records(
+        [0, 0, 0, 20, 20],
+        [1, 40, 0, 60, 20],
+        [2, 80, 0, 1_000_001, 20],
+        [0, 0, 0, 20, 20],
+    )
 }
 
-fn wire() -> [Piece; 513] {
-    let mut all = [piece(0, 100, 0, 200, 20); 513];
-    all[1] = piece(0, 200, 0, 300, 20);
-    all[2] = piece(1, 100, 90, 161, 110);
-    all[3] = piece(2, 239, 90, 300, 110);
-    all
+fn overlap() -> [Piece; 513]
+    ensures { λ r. ⌜ r ≡ recordsOf Layer.Overlap ⌝ }
+{
+    four_records(
+        [0, 0, 0, 20, 20],
+        [1, 40, 0, 60, 20],
+        [0, 10, 10, 30, 30],
+        [0, 0, 0, 20, 20],
+    )
 }
 
-fn tied() -> [Piece; 513] {
-    let mut all = [piece(0, 0, 0, 20, 20); 513];
-    all[1] = piece(0, 20, 11, 40, 31);
-    all[2] = piece(1, 10, 60, 30, 80);
-    all[3] = piece(2, 60, 60, 80, 80);
-    all
+fn wire() -> [Piece; 513]
+    ensures { λ r. ⌜ r ≡ recordsOf Layer.Wire ⌝ }
+{
+    four_records(
+        [0, 100, 0, 200, 20],
+        [0, 200, 0, 300, 20],
+        [1, 100, 90, 161, 110],
+        [2, 239, 90, 300, 110],
+    )
+}
+
+fn tied() -> [Piece; 513]
+    ensures { λ r. ⌜ r ≡ recordsOf Layer.Tied ⌝ }
+{
+    four_records(
+        [0, 0, 0, 20, 20],
+        [0, 20, 11, 40, 31],
+        [1, 10, 60, 30, 80],
+        [2, 60, 60, 80, 80],
+    )
 }
 
 // A square of a grid with 32 in a row.
 fn far_square(i: u32) -> Piece
-    requires { ⌜ i < 512 ⌝ }
+    requires { ⌜ i < 513 ⌝ }
+    ensures { λ r. ⌜ r ≡ farSquare i ⌝ }
 {
     let x = 2000 * (i % 32);
     let y = 2000 * (i / 32);
-    piece(i, x, y, x + 20, y + 20)
+    piece([i, x, y, x + 20, y + 20])
 }
 
-// 512 such squares, and one record more.
-fn far() -> [Piece; 513] {
-    let mut all = [piece(0, 0, 0, 20, 20); 513];
+// As many such squares as there are records: one more than a layer may have.
+fn far() -> [Piece; 513]
+    ensures { λ r. ⌜ r ≡ recordsOf Layer.Far ⌝ }
+{
+    let mut all = [far_square(0); 513];
     let mut i = 0;
-    while i < 512 {
+    while i < 513 {
         all[i] = far_square(i as u32);
         i += 1;
     }
@@ -90,24 +132,16 @@ fn far() -> [Piece; 513] {
 }
 
 // The records of a layer.
-pub fn records_of(layer: u32) -> [Piece; 513] {
-    if layer == THIN {
-        return thin();
+pub fn records_of(layer: Layer) -> [Piece; 513]
+    ensures { λ r. ⌜ r ≡ recordsOf layer ⌝ }
+{
+    match layer {
+        Layer::Row => row(),
+        Layer::Thin => thin(),
+        Layer::Outside => outside(),
+        Layer::Overlap => overlap(),
+        Layer::Wire => wire(),
+        Layer::Far => far(),
+        Layer::Tied => tied(),
     }
-    if layer == OUTSIDE {
-        return outside();
-    }
-    if layer == OVERLAP {
-        return overlap();
-    }
-    if layer == WIRE {
-        return wire();
-    }
-    if layer == FAR {
-        return far();
-    }
-    if layer == TIED {
-        return tied();
-    }
-    row()
 }

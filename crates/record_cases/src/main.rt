@@ -6,24 +6,19 @@ mod layers;
 mod lent;
 mod outcomes;
 
-use crate::layers::FAR;
-use crate::layers::OUTSIDE;
-use crate::layers::OVERLAP;
-use crate::layers::ROW;
-use crate::layers::THIN;
-use crate::layers::TIED;
-use crate::layers::WIRE;
+use crate::layers::Layer;
 use crate::layers::records_of;
 use crate::outcomes::best;
+use crate::outcomes::is_outcome;
 use crate::outcomes::of_refusal;
 use crate::outcomes::of_run;
 use crate::outcomes::of_score;
 use crate::outcomes::refused;
-use crate::outcomes::report;
 use crate::outcomes::scored;
 use crate::outcomes::with_memory;
 use crate::outcomes::written;
 use libc::STDIN_FILENO;
+use libc::STDOUT_FILENO;
 use rules::DecomposeAnswer;
 use rules::ScoreAnswer;
 use rules::Settings;
@@ -41,7 +36,7 @@ fn settings(k: u32) -> Settings {
     }
 }
 
-fn score_outcome(layer: u32, n: usize, masks: &[u8]) -> [u64; 8]
+fn score_outcome(layer: Layer, n: usize, masks: &[u8]) -> [u64; 8]
     requires { ⌜ n ≤ 513 ⌝ }
 {
     match lent::score(settings(2), records_of(layer), n, masks) {
@@ -50,7 +45,7 @@ fn score_outcome(layer: u32, n: usize, masks: &[u8]) -> [u64; 8]
     }
 }
 
-fn decompose_outcome(layer: u32, k: u32, n: usize, masks: &mut [u8]) -> [u64; 8]
+fn decompose_outcome(layer: Layer, k: u32, n: usize, masks: &mut [u8]) -> [u64; 8]
     requires { ⌜ n ≤ 513 ⌝ }
 {
     match lent::decompose(settings(k), records_of(layer), n, masks) {
@@ -59,12 +54,43 @@ fn decompose_outcome(layer: u32, k: u32, n: usize, masks: &mut [u8]) -> [u64; 8]
     }
 }
 
-fn write_outcome(layer: u32, n: usize, buffer: &mut [u8]) -> [u64; 8]
+fn write_outcome(layer: Layer, n: usize, buffer: &mut [u8]) -> [u64; 8]
     requires { ⌜ n ≤ 513 ⌝ }
 {
     match lent::write_layer(settings(2), records_of(layer), n, buffer) {
         WriteAnswer::Written(size) => written(size),
         WriteAnswer::Refused(refusal, place) => of_refusal(refusal, place),
+    }
+}
+
+// ---- how a case came out
+
+fn print(text: &[u8]) {
+    io::write_all(STDOUT_FILENO, text);
+}
+
+fn print_next(n: u64) {
+    print(b" ");
+    io::print_decimal(STDOUT_FILENO, n);
+}
+
+fn print_numbers(came: [u64; 8]) {
+    let mut i = 0;
+    while i < 8 {
+        print_next(came[i]);
+        i += 1;
+    }
+}
+
+// A line with the case's name, and what came instead where it is not what the rules state.
+fn report(name: &[u8], came: [u64; 8], wanted: [u64; 8]) {
+    print(name);
+    if is_outcome(came, wanted) {
+        print(b": as stated\n");
+    } else {
+        print(b": DIFFERS:");
+        print_numbers(came);
+        print(b"\n");
     }
 }
 
@@ -83,7 +109,7 @@ fn list(bytes: u32, others: u8) -> [u8; 513] {
 // Decomposes n records of a layer on k masks. The mask list must then be as given.
 fn decompose_in(
     name: &[u8],
-    layer: u32,
+    layer: Layer,
     k: u32,
     n: usize,
     masks: &mut [u8],
@@ -97,7 +123,15 @@ fn decompose_in(
 }
 
 // The same with a list of m masks, all 9, which must then be the first m of `after`.
-fn decompose(name: &[u8], layer: u32, k: u32, n: usize, m: u32, after: [u8; 513], wanted: [u64; 8])
+fn decompose(
+    name: &[u8],
+    layer: Layer,
+    k: u32,
+    n: usize,
+    m: u32,
+    after: [u8; 513],
+    wanted: [u64; 8],
+)
     requires { ⌜ n ≤ 513 ⌝ }
 {
     let mut masks = [9u8; 513];
@@ -114,14 +148,14 @@ fn decompose(name: &[u8], layer: u32, k: u32, n: usize, m: u32, after: [u8; 513]
     );
 }
 
-fn decompose_refused(name: &[u8], layer: u32, k: u32, n: usize, m: u32, number: u64, place: u64)
+fn decompose_refused(name: &[u8], layer: Layer, k: u32, n: usize, m: u32, number: u64, place: u64)
     requires { ⌜ n ≤ 513 ⌝ }
 {
     decompose(name, layer, k, n, m, [9u8; 513], refused(number, place));
 }
 
 // Scores n records of a layer on two masks, with a list of m masks.
-fn score(name: &[u8], layer: u32, n: usize, m: u32, bytes: u32, wanted: [u64; 8])
+fn score(name: &[u8], layer: Layer, n: usize, m: u32, bytes: u32, wanted: [u64; 8])
     requires { ⌜ n ≤ 513 ⌝ }
 {
     let masks = list(bytes, 0);
@@ -130,7 +164,7 @@ fn score(name: &[u8], layer: u32, n: usize, m: u32, bytes: u32, wanted: [u64; 8]
 }
 
 // Writes n records of a layer. The buffer must then be as given.
-fn write_in(name: &[u8], layer: u32, n: usize, buffer: &mut [u8], after: &[u8], wanted: [u64; 8])
+fn write_in(name: &[u8], layer: Layer, n: usize, buffer: &mut [u8], after: &[u8], wanted: [u64; 8])
     requires { ⌜ n ≤ 513 ⌝ }
 {
     let came = write_outcome(layer, n, buffer);
@@ -138,7 +172,7 @@ fn write_in(name: &[u8], layer: u32, n: usize, buffer: &mut [u8], after: &[u8], 
 }
 
 // The text is refused, and a buffer of zeros stays.
-fn write_refused(name: &[u8], layer: u32, n: usize, room: u32, number: u64, place: u64)
+fn write_refused(name: &[u8], layer: Layer, n: usize, room: u32, number: u64, place: u64)
     requires { ⌜ n ≤ 513 ⌝ }
 {
     let zeros = io::large_buffer();
@@ -160,7 +194,7 @@ fn write_refused(name: &[u8], layer: u32, n: usize, room: u32, number: u64, plac
 fn results() {
     decompose(
         b"decompose the row",
-        ROW,
+        Layer::Row,
         2,
         3,
         3,
@@ -169,7 +203,7 @@ fn results() {
     );
     decompose(
         b"decompose 512 records",
-        FAR,
+        Layer::Far,
         2,
         512,
         512,
@@ -178,7 +212,7 @@ fn results() {
     );
     decompose(
         b"decompose tied pieces",
-        TIED,
+        Layer::Tied,
         2,
         4,
         4,
@@ -190,7 +224,7 @@ fn results() {
 fn scores() {
     score(
         b"score the row on 0, 1, 0",
-        ROW,
+        Layer::Row,
         3,
         3,
         0x00010000,
@@ -198,7 +232,7 @@ fn scores() {
     );
     score(
         b"score the row on 1, 1, 1",
-        ROW,
+        Layer::Row,
         3,
         3,
         0x01010100,
@@ -206,7 +240,7 @@ fn scores() {
     );
     score(
         b"score the wire on 0, 1, 1, 0",
-        WIRE,
+        Layer::Wire,
         4,
         4,
         0x00010100,
@@ -217,7 +251,7 @@ fn scores() {
 fn half_done_scores() {
     score(
         b"score the row, piece 1 not set",
-        ROW,
+        Layer::Row,
         3,
         3,
         0x00FF0000,
@@ -225,7 +259,7 @@ fn half_done_scores() {
     );
     score(
         b"score tied pieces, the lowest not set",
-        TIED,
+        Layer::Tied,
         4,
         4,
         0xFF010100,
@@ -233,7 +267,7 @@ fn half_done_scores() {
     );
     score(
         b"score the wire, nothing set",
-        WIRE,
+        Layer::Wire,
         4,
         4,
         0xFFFFFFFF,
@@ -246,28 +280,49 @@ fn text() {
     let mut after = io::large_buffer();
     let size = io::read_full(STDIN_FILENO, &mut after);
     let mut buffer = io::large_buffer();
-    write_in(b"write the row", ROW, 3, &mut buffer, &after, written(size));
+    write_in(
+        b"write the row",
+        Layer::Row,
+        3,
+        &mut buffer,
+        &after,
+        written(size),
+    );
 }
 
 // ---- refusals
 
 fn bad_layers() {
-    decompose_refused(b"decompose 513 records", FAR, 2, 513, 513, 4, 0);
-    decompose_refused(b"piece 1 of no width", THIN, 2, 3, 3, 5, 1);
-    decompose_refused(b"piece 2 out of range", OUTSIDE, 2, 3, 3, 4, 2);
-    decompose_refused(b"piece 2 overlaps piece 0", OVERLAP, 2, 3, 3, 6, 2);
-    decompose_refused(b"decompose on 9 masks", ROW, 9, 3, 3, 4, 0);
-    decompose_refused(b"room for 2 masks", ROW, 2, 3, 2, 7, 0);
-    decompose_refused(b"room for 4 masks", ROW, 2, 3, 4, 7, 0);
+    decompose_refused(b"decompose 513 records", Layer::Far, 2, 513, 513, 4, 0);
+    decompose_refused(b"piece 1 of no width", Layer::Thin, 2, 3, 3, 5, 1);
+    decompose_refused(b"piece 2 out of range", Layer::Outside, 2, 3, 3, 4, 2);
+    decompose_refused(b"piece 2 overlaps piece 0", Layer::Overlap, 2, 3, 3, 6, 2);
+    decompose_refused(b"decompose on 9 masks", Layer::Row, 9, 3, 3, 4, 0);
+    decompose_refused(b"room for 2 masks", Layer::Row, 2, 3, 2, 7, 0);
+    decompose_refused(b"room for 4 masks", Layer::Row, 2, 3, 4, 7, 0);
 }
 
 fn bad_scores() {
-    score(b"score 513 records", FAR, 513, 513, 0, refused(4, 0));
-    score(b"score 2 masks", ROW, 3, 2, 0x00010000, refused(7, 0));
-    score(b"score 4 masks", ROW, 3, 4, 0x00010000, refused(7, 0));
+    score(b"score 513 records", Layer::Far, 513, 513, 0, refused(4, 0));
+    score(
+        b"score 2 masks",
+        Layer::Row,
+        3,
+        2,
+        0x00010000,
+        refused(7, 0),
+    );
+    score(
+        b"score 4 masks",
+        Layer::Row,
+        3,
+        4,
+        0x00010000,
+        refused(7, 0),
+    );
     score(
         b"piece 1 on mask 2 of 2",
-        ROW,
+        Layer::Row,
         3,
         3,
         0x00020200,
@@ -275,7 +330,7 @@ fn bad_scores() {
     );
     score(
         b"piece 1 on mask 254 of 2",
-        ROW,
+        Layer::Row,
         3,
         3,
         0x00FE0000,
@@ -283,7 +338,7 @@ fn bad_scores() {
     );
     score(
         b"tied pieces on 0 and 1",
-        TIED,
+        Layer::Tied,
         4,
         4,
         0x00010101,
@@ -291,7 +346,7 @@ fn bad_scores() {
     );
     score(
         b"tied pieces on 0 and 1, mask 2 of 2",
-        TIED,
+        Layer::Tied,
         4,
         4,
         0x00010102,
@@ -300,8 +355,8 @@ fn bad_scores() {
 }
 
 fn bad_texts() {
-    write_refused(b"write 513 records", FAR, 513, 32768, 4, 0);
-    write_refused(b"room for 32767 bytes", ROW, 3, 32767, 1, 0);
+    write_refused(b"write 513 records", Layer::Far, 513, 32768, 4, 0);
+    write_refused(b"room for 32767 bytes", Layer::Row, 3, 32767, 1, 0);
 }
 
 fn main() {

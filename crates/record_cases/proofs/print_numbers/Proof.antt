@@ -2,8 +2,8 @@
 use borrow.Author.Needs.{needs}
 use Prim.Native.Nat.{_≤_, _-_}
 use native.Mathlib.Omega.{arith}
-use Rattle.record_cases.proofs.outcomes.print_numbers.Statement.{statement}
-use Rattle.record_cases.proofs.outcomes.print_numbers.Tie as tie
+use Rattle.record_cases.proofs.print_numbers.Statement.{statement}
+use Rattle.record_cases.proofs.print_numbers.Tie as tie
 
 abbrev Inv-loop : tie.InvT-loop
 Inv-loop came i₀ i = i ≤ 8
