@@ -16,9 +16,13 @@ use Rattle.bitset.proofs.Sets.{member-none}
 use Rattle.rules.specs.declared.layer.Settings.{Settings}
 use Rattle.rules.specs.declared.layer.Piece.{Piece}
 use Rattle.rules.specs.Basics.{given}
-use Rattle.rules.specs.Edges.{graphOf}
-use Rattle.adjacency.specs.Adjacency.{isPair, inRow, RowTo, Holds, Adjacency, BothWays}
-use Rattle.rules.proofs.Edges.{undirected}
+use Rattle.rules.specs.Settings.{pieceAt}
+use Rattle.rules.specs.Edges.{conflictEdge, stitchEdge, tied, graphOf}
+use Rattle.rules.specs.Questions.{Valid}
+use Rattle.layout.specs.Flat.{pieceOf, piecesOf}
+use Rattle.adjacency.specs.Adjacency.{conflictOf, stitchOf, tieOf, isPair, inRow, RowTo, Holds, Adjacency, Ties, BothWays}
+use Rattle.rules.proofs.Edges.{undirected, no-self-conflict, no-self-stitch, no-self-tie}
+use Rattle.layout.proofs.PieceLaws.{piece-of, valid-flat}
 use Rattle.rules.proofs.Tests.{and-left, and-right, or-either, same, same-where, ltb-next}
 
 -- ---- a pair, by its lesser and its greater number
@@ -118,6 +122,28 @@ rows-hold edge joins n {words} agree loops rows = record { bits = λ a b h. rows
         rw (lt-ltb a n l, le-ltb b n (omega arith), le-ltb (max a b) n (omega arith), and-false (ltb (min a b) (max a b))) (and-false (edge a b))
     go a b (no l) k d =
         rw (le-ltb a n (omega arith), le-ltb (max a b) n (omega arith), and-false (ltb (min a b) (max a b))) (and-false (edge a b))
+
+-- the rows of a judged layer's pieces, as numbers: no piece is joined to itself
+module _ (s : Settings) (flat : List ℕ) (n : ℕ) (valid : Valid s (piecesOf flat n)) where
+  abbrev ps : List Piece
+  ps = piecesOf flat n
+
+  same-pieces : {A : Type 0} (f : Piece → Piece → A) (a b : ℕ) → a < n → b < n → f (pieceOf flat a) (pieceOf flat b) ≡ f (pieceAt ps a) (pieceAt ps b)
+  same-pieces f a b h k = rw (piece-of flat n a h, piece-of flat n b k)
+
+  pub rows-adjacency : {conflictWords stitchWords : List ℕ} → Rows (conflictOf s flat) n conflictWords → Rows (stitchOf s flat) n stitchWords → Adjacency s ps n conflictWords stitchWords
+  rows-adjacency conflicts stitches =
+      let f = valid-flat s flat n valid in
+      record {
+        conflicts = rows-hold _ (λ a b. conflictEdge s (pieceAt ps a) (pieceAt ps b)) n (same-pieces (conflictEdge s)) (λ a h. no-self-conflict s (pieceAt ps a)) conflicts;
+        stitches = rows-hold _ (λ a b. stitchEdge s (pieceAt ps a) (pieceAt ps b)) n (same-pieces (stitchEdge s))
+            (λ a h. rw (piece-of flat n a h) (no-self-stitch s (pieceOf flat a) (f .settings) (f .areas a h))) stitches;
+      }
+
+  pub rows-ties : {words : List ℕ} → Rows (tieOf s flat) n words → Ties s ps n words
+  rows-ties rows =
+      rows-hold _ (λ a b. tied s (pieceAt ps a) (pieceAt ps b)) n (same-pieces (tied s))
+      (λ a h. rw (piece-of flat n a h) (no-self-tie s (pieceOf flat a) (valid-flat s flat n valid .areas a h))) rows
 
 -- ---- what the words say
 

@@ -1,3 +1,5 @@
+pub mod Kinds
+pub mod Reaches
 pub mod Adjacency
 pub mod UnitGraph
 pub mod Members

@@ -43,7 +43,7 @@ fn squared_gap(a: Piece, b: Piece) -> u64
 }
 
 // Whether a conflict edge joins two pieces.
-pub fn conflict(settings: Settings, a: Piece, b: Piece) -> bool
+fn conflict(settings: Settings, a: Piece, b: Piece) -> bool
     requires { ⌜ settingsInRange settings ≡ true ⌝ }
     requires { ⌜ pieceInRange a ≡ true ⌝ }
     requires { ⌜ pieceInRange b ≡ true ⌝ }
@@ -69,7 +69,7 @@ fn contact_length(a: Piece, b: Piece) -> u32
 }
 
 // Whether a stitch edge joins two pieces.
-pub fn stitch(settings: Settings, a: Piece, b: Piece) -> bool
+fn stitch(settings: Settings, a: Piece, b: Piece) -> bool
     ensures { λ r. ⌜ r ≡ stitchEdge settings a b ⌝ }
 {
     if a.shape != b.shape {
@@ -79,7 +79,7 @@ pub fn stitch(settings: Settings, a: Piece, b: Piece) -> bool
 }
 
 // Whether two pieces are tied.
-pub fn tie(settings: Settings, a: Piece, b: Piece) -> bool
+fn tie(settings: Settings, a: Piece, b: Piece) -> bool
     ensures { λ r. ⌜ r ≡ tied settings a b ⌝ }
 {
     if a.shape != b.shape {
@@ -90,7 +90,7 @@ pub fn tie(settings: Settings, a: Piece, b: Piece) -> bool
 }
 
 // The edge between two pieces that are judged.
-fn judged_edge(settings: Settings, a: Piece, b: Piece) -> Edge
+pub fn judged_edge(settings: Settings, a: Piece, b: Piece) -> Edge
     requires { ⌜ settingsInRange settings ≡ true ⌝ }
     requires { ⌜ pieceInRange a ≡ true ⌝ }
     requires { ⌜ pieceInRange b ≡ true ⌝ }

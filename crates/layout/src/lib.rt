@@ -1,6 +1,6 @@
 // Pieces as numbers, five to a piece: storing records so, judging a layer (questions 4 to 6 of RULES 11), and the edge or tie
-// between two pieces (RULES 2). Adjacency words stand on the edges; the public calls on records stand on the storing and the
-// judging.
+// between two pieces (RULES 2). Adjacency words and scores stand on the edges; the public calls on records stand on the storing
+// and the judging.
 mod distance;
 mod edges;
 mod flat;
@@ -8,10 +8,8 @@ mod judging;
 
 pub use distance::greater;
 pub use distance::lesser;
-pub use edges::conflict;
 pub use edges::edge;
-pub use edges::stitch;
-pub use edges::tie;
+pub use edges::judged_edge;
 pub use flat::flatten;
 pub use flat::piece_at;
 pub use flat::put;

@@ -1,22 +1,22 @@
 -- Edges have no direction, since distance and contact are the same both ways. In a valid layer no piece is joined to itself: it has its own shape, and
 -- as it has width and height it nowhere meets itself, so its contact with itself is 0, which is below every margin. The edge between two pieces is the
 -- one that their shapes, distance and contact give. Assumes nothing.
-use mathlib.Core.Bool.{Bool, true, false, not, _&&_, cond}
+use mathlib.Core.Bool.{Bool, true, false, not, _&&_, cond, and-false}
 use mathlib.Core.List.{List}
 use mathlib.Core.Logic.{_↔_}
 use mathlib.Core.Path.{_≡_, refl, sym, _∙_}
-use Prim.Native.Nat.{ℕ, _+_, _*_, _<_}
-use native.Mathlib.Nat.{max-comm, min-comm}
+use Prim.Native.Nat.{ℕ, _+_, _*_, _≤_, _<_}
+use native.Mathlib.Nat.{max-comm, min-comm, mul-le-mul}
 use native.Mathlib.Omega.{arith}
 use lib.Dec.{leb, ltb}
 use lib.ListN.{length}
-use borrow.Author.Tests.{eqb-true, eqb-false, eq-eqb, ne-eqb, ltb-true, lt-ltb, leb-true, le-leb, lt-leb, not-true}
+use borrow.Author.Tests.{eqb-true, eqb-false, eq-eqb, ne-eqb, ltb-true, lt-ltb, le-ltb, leb-true, le-leb, lt-leb, not-true}
 use Rattle.rules.specs.declared.layer.Settings.{Settings}
 use Rattle.rules.specs.declared.layer.Piece.{Piece}
 use Rattle.rules.specs.declared.layer.Edge.{Edge}
 use Rattle.rules.specs.Basics.{given}
 use Rattle.rules.specs.Settings.{settingsInRange, hasArea, pieceAt}
-use Rattle.rules.specs.Edges.{overlapX, overlapY, gapX, gapY, sameShape, squaredGap, conflictEdge, contact, stitchEdge, tied, edgeOf, Graph, graphOf, joined}
+use Rattle.rules.specs.Edges.{overlapX, overlapY, gapX, gapY, sameShape, squaredGap, conflictEdge, meetX, meetY, contact, stitchEdge, tied, edgeOf, Graph, graphOf, joined}
 use Rattle.rules.specs.Questions.{Valid}
 use Rattle.rules.specs.Demands.{TooClose, Stitchable, TooLittle}
 use Rattle.rules.proofs.Tests.{by-test, clash, eqb-sym, both}
@@ -170,6 +170,31 @@ module _ (s : Settings) (p q : Piece) where
         by-test (stitchEdge s p q) (λ g. absurd (tied-no-stitch t g)) λ g.
         edge-by false false true f g t,
   )
+
+  -- pieces that are the spacing apart in X, or in Y, have no edge: they are too far for a conflict, and touch nowhere
+  module _ (range : settingsInRange s ≡ true) where
+    no-contact : contact p q ≡ 0 → conflictEdge s p q ≡ false → edgeOf s p q ≡ Edge.None
+    unfolding stitchEdge tied
+    no-contact e c =
+        edge-by false false false c
+        (rw (e, lt-leb (s .margin) 0 (settings-facts s range .margin .low)) (and-false (sameShape p q)))
+        (rw (e, and-false (sameShape p q)))
+
+    pub far-in-x : s .spacing ≤ gapX p q → edgeOf s p q ≡ Edge.None
+    unfolding conflictEdge squaredGap contact overlapX gapX
+    far-in-x far =
+        let some = settings-facts s range .spacing .low in
+        no-contact
+        (rw (ne-eqb (overlapX p q + gapX p q) 0 (λ e. omega arith)) (by-test (meetY p q) (λ e. rw e (omega arith)) (λ e. rw e)))
+        (rw (le-ltb (squaredGap p q) (s .spacing * s .spacing) (omega (arith, mul-le-mul far far))) (and-false (not (sameShape p q))))
+
+    pub far-in-y : s .spacing ≤ gapY p q → edgeOf s p q ≡ Edge.None
+    unfolding conflictEdge squaredGap contact overlapY gapY
+    far-in-y far =
+        let some = settings-facts s range .spacing .low in
+        no-contact
+        (by-test (meetX p q) (λ e. rw e (omega arith)) (λ e. rw (e, ne-eqb (overlapY p q + gapY p q) 0 (λ e. omega arith))))
+        (rw (le-ltb (squaredGap p q) (s .spacing * s .spacing) (omega (arith, mul-le-mul far far))) (and-false (not (sameShape p q))))
 
 given-one : (b : Bool) → (given b 1 ≡ 1) ↔ (b ≡ true)
 given-one true = (λ _. refl, λ _. refl)

@@ -4,8 +4,8 @@ use mathlib.Core.Bool.{_&&_, or-assoc, or-false}
 use mathlib.Core.Path.{sym, _∙_}
 use lib.Dec.{eqb}
 use Rattle.bitset.specs.Bits.{hasEdge}
-use Rattle.adjacency.proofs.join_where.Statement.{statement}
-use Rattle.adjacency.proofs.join_where.Tie as tie
+use Rattle.adjacency.proofs.words.join_where.Statement.{statement}
+use Rattle.adjacency.proofs.words.join_where.Tie as tie
 
 join-requires : tie.Need-join-requires
 join-requires c κs = search needs

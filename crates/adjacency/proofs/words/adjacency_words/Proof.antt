@@ -1,17 +1,13 @@
 -- `adjacency_words`. The invariant: the rows before j are in the words. Assumes nothing.
 use borrow.Author.Needs.{needs}
-use mathlib.Core.Path.{_≡_, sym, ap₂}
-use Prim.Native.Nat.{ℕ, _≤_, _<_, _-_}
+use mathlib.Core.Path.{_≡_}
+use Prim.Native.Nat.{_≤_, _-_}
 use native.Mathlib.Omega.{arith}
-use Rattle.rules.specs.Settings.{pieceAt}
-use Rattle.rules.specs.Edges.{conflictEdge, stitchEdge, tied}
-use Rattle.layout.specs.Flat.{pieceOf, piecesOf}
 use Rattle.adjacency.specs.Adjacency.{conflictOf, stitchOf, tieOf}
-use Rattle.layout.proofs.PieceLaws.{piece-of, valid-flat}
-use Rattle.rules.proofs.Edges.{no-self-conflict, no-self-stitch, no-self-tie}
-use Rattle.adjacency.proofs.AdjacencyLaws.{Rows, rows-none, rows-more, rows-hold}
-use Rattle.adjacency.proofs.adjacency_words.Statement.{statement}
-use Rattle.adjacency.proofs.adjacency_words.Tie as tie
+use Rattle.layout.proofs.PieceLaws.{valid-flat}
+use Rattle.adjacency.proofs.AdjacencyLaws.{Rows, rows-none, rows-more, rows-adjacency, rows-ties}
+use Rattle.adjacency.proofs.words.adjacency_words.Statement.{statement}
+use Rattle.adjacency.proofs.words.adjacency_words.Tie as tie
 
 abbrev Inv-loop : tie.InvT-loop
 Inv-loop settings flat n conflicts₀ stitches₀ ties₀ j₀ conflicts stitches ties j =
@@ -61,20 +57,10 @@ returns c =
     let s = start .args .settings in
     let flat = start .args .flat .now in
     let n = start .args .n in
-    let ps = piecesOf flat n in
     let at = c .before .loop in
     let f = valid-flat s flat n (start .pre) in
     let e : at .j ≡ n = omega arith in
-    let piece : (i : ℕ) → i < n → pieceOf flat i ≡ pieceAt ps i = λ i h. sym (piece-of flat n i h) in
-    let conflicts = rows-hold (conflictOf s flat) (λ a b. conflictEdge s (pieceAt ps a) (pieceAt ps b)) n
-    (λ a b h k. ap₂ (conflictEdge s) (piece a h) (piece b k)) (λ a h. no-self-conflict s (pieceAt ps a)) (rw e at (at .inv .1)) in
-    let stitches = rows-hold (stitchOf s flat) (λ a b. stitchEdge s (pieceAt ps a) (pieceAt ps b)) n
-    (λ a b h k. ap₂ (stitchEdge s) (piece a h) (piece b k)) (λ a h. rw (piece-of flat n a h) (no-self-stitch s (pieceOf flat a) (f .settings) (f .areas a h)))
-    (rw e at (at .inv .2)) in
-    let ties = rows-hold (tieOf s flat) (λ a b. tied s (pieceAt ps a) (pieceAt ps b)) n
-    (λ a b h k. ap₂ (tied s) (piece a h) (piece b k)) (λ a h. rw (piece-of flat n a h) (no-self-tie s (pieceOf flat a) (f .areas a h)))
-    (rw e at (at .inv .3)) in
-    (record { conflicts = conflicts; stitches = stitches }, ties)
+    (rows-adjacency s flat n (start .pre) (rw e at (at .inv .1)) (rw e at (at .inv .2)), rows-ties s flat n (start .pre) (rw e at (at .inv .3)))
 
 pub adjacency-words-spec : {M : Type 1} → statement M
 adjacency-words-spec =
