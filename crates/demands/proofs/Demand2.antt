@@ -6,7 +6,7 @@ use Rattle.rules.specs.LayerText.{layerText}
 use Rattle.rules.specs.Questions.{Outcome, done, refused, Valid, Layer, readLayer}
 use Rattle.rules.specs.Edges.{graphOf}
 use Rattle.rules.specs.Demands.{Demand2}
-use Rattle.rules.proofs.Calls.{decompose-counts}
+use Rattle.rules.proofs.Calls.{decompose-counts, score-tested}
 use Rattle.theory.proofs.Assignments.{scored-exactly, whole-counts}
 use Rattle.theory.proofs.HalfDone.{more-score}
 use Rattle.rules.proofs.Edges.{conflict-exactly, stitch-exactly, tie-exactly, conflicts-exactly, stitches-exactly}
@@ -20,6 +20,7 @@ demand2 = record {
   conflicts = conflicts-exactly;
   stitches = stitches-exactly;
   scored = scored-exactly;
+  tested = score-tested;
   whole = λ s ps masks valid. whole-counts s ps valid masks;
   more = λ s ps. more-score (s .weight) (graphOf s ps) (length ps);
   counts = decompose-counts;

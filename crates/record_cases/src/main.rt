@@ -40,7 +40,7 @@ fn score_outcome(layer: Layer, n: usize, masks: &[u8]) -> [u64; 8]
     requires { ⌜ n ≤ 513 ⌝ }
 {
     match lent::score(settings(2), records_of(layer), n, masks) {
-        ScoreAnswer::Scored(score) => of_score(score),
+        ScoreAnswer::Scored(scoring) => of_score(scoring),
         ScoreAnswer::Refused(refusal, place) => of_refusal(refusal, place),
     }
 }
@@ -228,7 +228,7 @@ fn scores() {
         3,
         3,
         0x00010000,
-        scored(1, 0, 10),
+        scored(1, 0, 10, 3),
     );
     score(
         b"score the row on 1, 1, 1",
@@ -236,7 +236,7 @@ fn scores() {
         3,
         3,
         0x01010100,
-        scored(3, 0, 30),
+        scored(3, 0, 30, 3),
     );
     score(
         b"score the wire on 0, 1, 1, 0",
@@ -244,7 +244,7 @@ fn scores() {
         4,
         4,
         0x00010100,
-        scored(0, 1, 1),
+        scored(0, 1, 1, 6),
     );
 }
 
@@ -255,7 +255,7 @@ fn half_done_scores() {
         3,
         3,
         0x00FF0000,
-        scored(1, 0, 10),
+        scored(1, 0, 10, 3),
     );
     score(
         b"score tied pieces, the lowest not set",
@@ -263,7 +263,7 @@ fn half_done_scores() {
         4,
         4,
         0xFF010100,
-        scored(1, 0, 10),
+        scored(1, 0, 10, 6),
     );
     score(
         b"score the wire, nothing set",
@@ -271,7 +271,7 @@ fn half_done_scores() {
         4,
         4,
         0xFFFFFFFF,
-        scored(0, 0, 0),
+        scored(0, 0, 0, 6),
     );
 }
 
@@ -302,7 +302,7 @@ fn bad_layers() {
     decompose_refused(b"room for 4 masks", Layer::Row, 2, 3, 4, 7, 0);
 }
 
-fn bad_scores() {
+fn bad_lists() {
     score(b"score 513 records", Layer::Far, 513, 513, 0, refused(4, 0));
     score(
         b"score 2 masks",
@@ -320,6 +320,9 @@ fn bad_scores() {
         0x00010000,
         refused(7, 0),
     );
+}
+
+fn bad_masks() {
     score(
         b"piece 1 on mask 2 of 2",
         Layer::Row,
@@ -365,6 +368,7 @@ fn main() {
     half_done_scores();
     text();
     bad_layers();
-    bad_scores();
+    bad_lists();
+    bad_masks();
     bad_texts();
 }

@@ -9,7 +9,7 @@ ghost use Rattle.record_cases.specs.Outcomes.{refusedAs, scoredAs, writt
 use rules::Decomposition;
 use rules::Place;
 use rules::Refusal;
-use rules::Score;
+use rules::Scoring;
 use rules::Verdict;
 
 pub fn refused(number: u64, place: u64) -> [u64; 8]
@@ -18,10 +18,10 @@ pub fn refused(number: u64, place: u64) -> [u64; 8]
     [number, place, 0, 0, 0, 0, 0, 0]
 }
 
-pub fn scored(conflicts: u64, stitches: u64, cost: u64) -> [u64; 8]
-    ensures { λ r. ⌜ r ≡ scoredAs conflicts stitches cost ⌝ }
+pub fn scored(conflicts: u64, stitches: u64, cost: u64, tested: u64) -> [u64; 8]
+    ensures { λ r. ⌜ r ≡ scoredAs conflicts stitches cost tested ⌝ }
 {
-    [0, 0, conflicts, stitches, cost, 0, 0, 0]
+    [0, 0, conflicts, stitches, cost, tested, 0, 0]
 }
 
 pub fn best(conflicts: u64, stitches: u64, cost: u64, steps: u64) -> [u64; 8]
@@ -58,13 +58,15 @@ pub fn of_refusal(refusal: Refusal, place: Place) -> [u64; 8]
     refused(refusal.number() as u64, place.number() as u64)
 }
 
-pub fn of_score(score: Score) -> [u64; 8]
-    ensures { λ r. ⌜ r ≡ scoreNumbers score ⌝ }
+pub fn of_score(scoring: Scoring) -> [u64; 8]
+    ensures { λ r. ⌜ r ≡ scoreNumbers scoring ⌝ }
 {
+    let score = scoring.score;
     scored(
         score.conflicts as u64,
         score.stitches as u64,
         score.cost as u64,
+        scoring.tested as u64,
     )
 }
 

@@ -7,13 +7,13 @@ use mathlib.Core.Path.{_≡_, refl, subst, _∙_}
 use Prim.Native.Nat.{ℕ, _≤_, _<_, min}
 use native.Mathlib.Omega.{arith}
 use lib.Dec.{leb·zero}
-use lib.ListN.{length, take}
+use lib.ListN.{length}
 use lib.Seq.{take-all}
 use borrow.Author.Tests.{lt-leb}
 use Rattle.rules.specs.declared.layer.Settings.{Settings}
 use Rattle.rules.specs.declared.layer.Piece.{Piece}
 use Rattle.rules.specs.declared.refusal.Place.{Place}
-use Rattle.rules.specs.declared.answers.Score.{Score}
+use Rattle.rules.specs.declared.answers.Scoring.{Scoring}
 use Rattle.rules.specs.Settings.{settingsInRange}
 use Rattle.rules.specs.Decomposition.{Run}
 use Rattle.rules.specs.Questions.{Outcome, refused, ask, andThen, judgeLayer}
@@ -27,7 +27,7 @@ use Rattle.records.specs.Gathered.{Gathered}
 
 -- ---- what is promised of a call on pieces: of its outcome, and of lent memory after it
 
-abbrev Scored : Settings → List ℕ → Outcome Score → List Piece → Type 0
+abbrev Scored : Settings → List ℕ → Outcome Scoring → List Piece → Type 0
 Scored s masks o ps = o ≡ scoreMasks s ps masks
 
 abbrev Decomposed : Settings → List ℕ → Outcome Run → List ℕ → List Piece → Type 0
@@ -70,7 +70,7 @@ module _ (s : Settings) {ps : List Piece} {before flat : List ℕ} {n : ℕ} (ga
       (λ few. subst P (all-stored gathered few))
       (lt-or-ge 512 n)
 
-  pub scored : (masks : List ℕ) {o : Outcome Score} → Scored s masks o (piecesOf flat n) → Scored s masks o ps
+  pub scored : (masks : List ℕ) {o : Outcome Scoring} → Scored s masks o (piecesOf flat n) → Scored s masks o ps
   unfolding scoreMasks
   scored masks {o} = of-records (Scored s masks o) (λ e f h. rw f (rw e at h))
 

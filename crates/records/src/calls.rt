@@ -10,7 +10,7 @@ use rules::ScoreAnswer;
 use rules::Settings;
 use rules::WriteAnswer;
 
-// The score of masks on a layer, all set or half done, or the first of the refusals 4 to 8 and 12.
+// The score of masks on a layer, all set or half done, with the number of pairs tested, or the first of the refusals 4 to 8 and 12.
 pub fn score(settings: Settings, pieces: &[Piece], masks: &[u8]) -> ScoreAnswer
     ensures { λ r. ⌜ scoreAnswer r ≡ scoreMasks settings (now (pieces .entry)) (now (masks .entry)) ⌝ }
 {

@@ -2,7 +2,7 @@
 -- Assumes nothing.
 use mathlib.Core.Bool.{true, not, _&&_, _||_}
 use mathlib.Core.List.{List, [], _∷_}
-use mathlib.Core.Path.{_≡_, refl, ap, subst}
+use mathlib.Core.Path.{_≡_, refl, sym, ap, subst}
 use Prim.Native.Nat.{ℕ, zero, suc, _/_, _%_, _≤_, _<_}
 use native.Mathlib.Omega.{arith}
 use lib.Dec.{eqb, leb, ltb}
@@ -11,6 +11,8 @@ use borrow.Author.Tests.{leb-true, eq-eqb}
 use Rattle.rules.specs.declared.layer.Settings.{Settings}
 use Rattle.rules.specs.declared.layer.Piece.{Piece}
 use Rattle.rules.specs.declared.refusal.Place.{Place}
+use Rattle.rules.specs.declared.answers.Scoring.{Scoring}
+use Rattle.rules.specs.Basics.{sumPairs}
 use Rattle.rules.specs.Settings.{settingsInRange}
 use Rattle.rules.specs.Edges.{edgeOf}
 use Rattle.rules.specs.Score.{maskOf, isSet}
@@ -22,10 +24,11 @@ use Rattle.rules.specs.Questions.{Outcome, done, refused, ask, judgeLaye
 use Rattle.rules.specs.Calls.{newSettings, edgeBetween, scoreMasks, decomposeLayer, writeLayer, decomposeRead, decomposeText}
 use Rattle.rules.specs.Loader.{loaderNumber, placeFrom}
 use Rattle.rules.specs.Refusals.{Ends, accepts, OfSettings, setting, OfRecords, OfMaskList, records, mask-count, OfMasks, mask-list, mask-range, split, OfText, size, form, range, area, overlap, OfBuffer, buffer, given}
-use Rattle.rules.specs.Demands.{layerScore}
+use Rattle.rules.specs.Demands.{layerScore, layerScoring}
 use Rattle.rules.proofs.Tests.{by-test}
 use Rattle.rules.proofs.Finding.{find-upTo}
-use Rattle.rules.proofs.Outcomes.{ends-then, ends-ask, ends-each, ends-refused, then-with}
+use Rattle.rules.proofs.Sums.{pairs-count}
+use Rattle.rules.proofs.Outcomes.{accepted, ends-then, ends-ask, ends-each, ends-refused, then-with}
 use Rattle.rules.proofs.Validity.{Sound, sound-valid, judged}
 use Rattle.rules.proofs.Reading.{read-ends}
 
@@ -53,7 +56,7 @@ split-ends : (unit : ℕ → ℕ) (n : ℕ) (masks : List ℕ) (i : ℕ) → i <
 split-ends unit n masks zero h = rw (first-fits unit n masks h) (accepts refl)
 split-ends unit n masks (suc i) h = ends-ask (fitsUnit unit n masks (suc i)) 12 (Place.Piece (suc i)) (split (omega arith) h)
 
-pub score-ends : (s : Settings) (ps : List Piece) (masks : List ℕ) → Ends (λ r. r ≡ layerScore s ps masks) (OfMasks (length ps)) (scoreMasks s ps masks)
+pub score-ends : (s : Settings) (ps : List Piece) (masks : List ℕ) → Ends (λ r. r ≡ layerScoring s ps masks) (OfMasks (length ps)) (scoreMasks s ps masks)
 unfolding scoreMasks
 score-ends s ps masks =
     ends-then (ends-refused (λ _ _ r. mask-list (records r)) (judged s ps)) λ _ _.
@@ -61,6 +64,12 @@ score-ends s ps masks =
     ends-then (ends-each _ (length ps) (λ i h. ends-ask (not (isSet masks i) || ltb (maskOf masks i) (s .masks)) 8 _ (mask-range h))) λ _ _.
     ends-then (ends-each _ (length ps) (split-ends (unitOf s ps) (length ps) masks)) λ _ _.
     accepts refl
+
+-- the pairs that a score states as tested are one for each unordered pair
+pub score-tested : (s : Settings) (ps : List Piece) (masks : List ℕ) (r : Scoring) → scoreMasks s ps masks ≡ done r → r .tested ≡ sumPairs (λ u v. 1) (length ps)
+score-tested s ps masks r e =
+    let same : r ≡ layerScoring s ps masks = accepted (score-ends s ps masks) e in
+    rw same (sym (pairs-count (length ps)))
 
 -- ---- Calls whose value is made of a valid layer
 

@@ -1,13 +1,14 @@
 -- Sums over the numbers below a bound, and over unordered pairs of them: one number more or less, terms that agree or grow, and how large they get where
 -- each term is at most 1. Assumes nothing.
 use mathlib.Core.Path.{_≡_, refl, sym, ap, ap₂}
-use Prim.Native.Nat.{ℕ, zero, suc, _+_, _*_, _≤_, _<_}
+use Prim.Native.Nat.{ℕ, zero, suc, _+_, _-_, _*_, _≤_, _<_}
 use native.Mathlib.Nat.{mul-suc, suc-mul, mul-le-mul}
 use native.Mathlib.Numerals.{add-one}
 use native.Mathlib.Omega.{arith}
 use lib.Dec.{eqb}
 use borrow.Author.Tests.{eqb-true, eqb-false}
 use Rattle.rules.specs.Basics.{sumTo, sumPairs}
+use Rattle.rules.specs.Score.{pairsOf}
 use Rattle.rules.proofs.Tests.{by-test}
 
 pub sum-next : (f : ℕ → ℕ) (n : ℕ) → sumTo f (n + 1) ≡ sumTo f n + f n
@@ -43,10 +44,14 @@ unfolding sumTo
 sum-none zero h = refl
 sum-none (suc n) h = omega (arith, sum-none n (λ k l. h k (omega arith)), h n (omega arith))
 
-pub sum-le : (f : ℕ → ℕ) (n : ℕ) → ((k : ℕ) → f k ≤ 1) → sumTo f n ≤ n
+-- the numbers themselves, counted
+sum-all : (n : ℕ) → sumTo (λ k. 1) n ≡ n
 unfolding sumTo
-sum-le f zero h = omega arith
-sum-le f (suc n) h = omega (arith, sum-le f n h, h n)
+sum-all zero = refl
+sum-all (suc n) = omega (arith, sum-all n)
+
+pub sum-le : (f : ℕ → ℕ) (n : ℕ) → ((k : ℕ) → f k ≤ 1) → sumTo f n ≤ n
+sum-le f n h = omega (arith, sum-mono {f = f} {g = λ k. 1} n (λ k _. h k), sum-all n)
 
 pub pairs-next : (f : ℕ → ℕ → ℕ) (n : ℕ) → sumPairs f (n + 1) ≡ sumPairs f n + sumTo (λ u. f u n) n
 unfolding sumPairs
@@ -60,11 +65,21 @@ pub pairs-mono : {f g : ℕ → ℕ → ℕ} (n : ℕ) → ((u v : ℕ) → u < 
 unfolding sumPairs
 pairs-mono n h = sum-mono n (λ v l. sum-mono v (λ u k. h u v k l))
 
--- n numbers have n * (n - 1) / 2 unordered pairs
-pub pairs-le : (f : ℕ → ℕ → ℕ) (n : ℕ) → ((u v : ℕ) → f u v ≤ 1) → 2 * sumPairs f n + n ≤ n * n
+-- the pairs themselves, counted
+pairs-all : (n : ℕ) → 2 * sumPairs (λ u v. 1) n + n ≡ n * n
 unfolding sumPairs sumTo
-pairs-le f zero h = omega arith
-pairs-le f (suc n) h = omega (arith, pairs-le f n h, sum-le (λ u. f u n) n (λ u. h u n), mul-suc (suc n) n, suc-mul n n)
+pairs-all zero = refl
+pairs-all (suc n) = omega (arith, pairs-all n, sum-all n, mul-suc (suc n) n, suc-mul n n)
+
+-- n numbers have n * (n - 1) / 2 unordered pairs
+pub pairs-count : (n : ℕ) → sumPairs (λ u v. 1) n ≡ pairsOf n
+pairs-count zero = omega (arith, pairs-all 0)
+pairs-count (suc n) =
+    let e : suc n - 1 ≡ n = omega arith in
+    rw e (omega (arith, pairs-all (suc n), mul-suc (suc n) n))
+
+pub pairs-le : (f : ℕ → ℕ → ℕ) (n : ℕ) → ((u v : ℕ) → f u v ≤ 1) → 2 * sumPairs f n + n ≤ n * n
+pairs-le f n h = omega (arith, pairs-mono {f = f} {g = λ u v. 1} n (λ u v _ _. h u v), pairs-all n)
 
 pub pairs-small : (f : ℕ → ℕ → ℕ) (n : ℕ) → ((u v : ℕ) → f u v ≤ 1) → n ≤ 512 → sumPairs f n ≤ 130_816
 pairs-small f zero h l = omega (arith, pairs-le f 0 h)

@@ -67,7 +67,7 @@ pub record TieCases : Type 0 where
   -- 8 is through with all pieces before 12 looks at one; its place is the lowest piece on a mask that is not its unit's
   pub split : scoreMasks (settingsOf 2 100) chain (0 ∷ 1 ∷ 1 ∷ 1 ∷ 1 ∷ []) ≡ refused 12 (Place.Piece 2)
   pub range-before-split : scoreMasks (settingsOf 2 100) chain (0 ∷ 1 ∷ 1 ∷ 0 ∷ 2 ∷ []) ≡ refused 8 (Place.Piece 4)
-  pub kept-together : scoreMasks (settingsOf 2 100) chain (1 ∷ 1 ∷ 1 ∷ 1 ∷ 0 ∷ []) ≡ done (record { conflicts = 3; stitches = 0; cost = 30 })
+  pub kept-together : scoreMasks (settingsOf 2 100) chain (1 ∷ 1 ∷ 1 ∷ 1 ∷ 0 ∷ []) ≡ done (record { score = record { conflicts = 3; stitches = 0; cost = 30 }; tested = 10 })
 
 pub tieCases : TieCases
 unfolding sumTo sumPairs sumOf upFrom anyOf countOf keep find settingsInRange pieceInRange hasArea overlapX overlapY gapX gapY squaredGap conflictEdge contact stitchEdge tied edgeOf overlapping conflictsOf stitchesOf scoreOf pairCost mayGo peelFor reachFor componentsFor partOf edgesBetween spread added totalAfter cheapest firstAfter different candidates tryMasks searchPlaces putMasks searchAll putBack putBackAll decompose run askEach judgePiece judgeOverlaps judgeLayer edgeBetween decomposeLayer scoreMasks

@@ -7,7 +7,7 @@ use Rattle.rules.specs.declared.layer.Settings.{Settings}
 use Rattle.rules.specs.declared.layer.Piece.{Piece}
 use Rattle.rules.specs.declared.layer.Edge.{Edge}
 use Rattle.rules.specs.declared.refusal.Refusal.{Refusal}
-use Rattle.rules.specs.declared.answers.Score.{Score}
+use Rattle.rules.specs.declared.answers.Scoring.{Scoring}
 use Rattle.rules.specs.declared.answers.SettingsAnswer.{SettingsAnswer}
 use Rattle.rules.specs.declared.answers.EdgeAnswer.{EdgeAnswer}
 use Rattle.rules.specs.declared.answers.ScoreAnswer.{ScoreAnswer}
@@ -43,7 +43,7 @@ abbrev pub edgeAnswer : EdgeAnswer → Outcome Edge
 edgeAnswer (EdgeAnswer.Found e) = done e
 edgeAnswer (EdgeAnswer.Refused q place) = refused (refusalNumber q) place
 
-abbrev pub scoreAnswer : ScoreAnswer → Outcome Score
+abbrev pub scoreAnswer : ScoreAnswer → Outcome Scoring
 scoreAnswer (ScoreAnswer.Scored s) = done s
 scoreAnswer (ScoreAnswer.Refused q place) = refused (refusalNumber q) place
 

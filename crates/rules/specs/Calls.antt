@@ -7,11 +7,11 @@ use lib.ListN.{length, drop}
 use Rattle.rules.specs.declared.layer.Settings.{Settings}
 use Rattle.rules.specs.declared.layer.Piece.{Piece}
 use Rattle.rules.specs.declared.layer.Edge.{Edge}
-use Rattle.rules.specs.declared.answers.Score.{Score}
+use Rattle.rules.specs.declared.answers.Scoring.{Scoring}
 use Rattle.rules.specs.declared.refusal.Place.{Place}
 use Rattle.rules.specs.Settings.{settingsInRange}
 use Rattle.rules.specs.Edges.{edgeOf, graphOf}
-use Rattle.rules.specs.Score.{maskOf, isSet, scoreOf}
+use Rattle.rules.specs.Score.{maskOf, isSet, scoreOf, pairsOf}
 use Rattle.rules.specs.Units.{unitOf, fitsUnit}
 use Rattle.rules.specs.Decomposition.{Run, run}
 use Rattle.rules.specs.LayerText.{layerText}
@@ -30,14 +30,14 @@ newSettings masks spacing margin weight budget =
 unfoldable pub edgeBetween : Settings → Piece → Piece → Outcome Edge
 edgeBetween s a b = andThen (judgeLayer s (a ∷ b ∷ [])) λ _. done (edgeOf s a b)
 
--- the score of given masks: each is below K or not set yet, and those that are set do not split a unit
-unfoldable pub scoreMasks : Settings → List Piece → List ℕ → Outcome Score
+-- the score of given masks: each is below K or not set yet, and those that are set do not split a unit; beside it, that every pair was tested once
+unfoldable pub scoreMasks : Settings → List Piece → List ℕ → Outcome Scoring
 scoreMasks s ps masks =
     andThen (judgeLayer s ps) λ _.
     andThen (ask (eqb (length masks) (length ps)) 7 Place.Nothing) λ _.
     andThen (askEach (λ i. ask (not (isSet masks i) || ltb (maskOf masks i) (s .masks)) 8 (Place.Piece i)) (length ps)) λ _.
     andThen (askEach (λ i. ask (fitsUnit (unitOf s ps) (length ps) masks i) 12 (Place.Piece i)) (length ps)) λ _.
-    done (scoreOf (s .weight) (graphOf s ps) masks (length ps))
+    done (record { score = scoreOf (s .weight) (graphOf s ps) masks (length ps); tested = pairsOf (length ps) })
 
 -- the whole decomposition, with a lent list for the masks
 unfoldable pub decomposeLayer : Settings → List Piece → List ℕ → Outcome Run

@@ -10,11 +10,12 @@ use Rattle.rules.specs.declared.layer.Piece.{Piece}
 use Rattle.rules.specs.declared.layer.Edge.{Edge}
 use Rattle.rules.specs.declared.refusal.Place.{Place}
 use Rattle.rules.specs.declared.answers.Score.{Score}
+use Rattle.rules.specs.declared.answers.Scoring.{Scoring}
 use Rattle.rules.specs.declared.answers.Verdict.{Verdict}
 use Rattle.rules.specs.Basics.{given, sumPairs}
 use Rattle.rules.specs.Settings.{settingsInRange, pieceAt}
 use Rattle.rules.specs.Edges.{squaredGap, contact, tied, edgeOf, graphOf}
-use Rattle.rules.specs.Score.{maskOf, sameMask, isSet, costOf, scoreOf}
+use Rattle.rules.specs.Score.{maskOf, sameMask, isSet, costOf, scoreOf, pairsOf}
 use Rattle.rules.specs.Decomposition.{Run, run, reached, completed, stepsInAll}
 use Rattle.rules.specs.LayerText.{layerText}
 use Rattle.rules.specs.Questions.{Outcome, done, refused, Valid, Layer, readLayer}
@@ -43,12 +44,16 @@ pub record HalfDone (s : Settings) (ps : List Piece) (masks : List ℕ) : Type 0
 abbrev pub layerScore : Settings → List Piece → List ℕ → Score
 layerScore s ps masks = scoreOf (s .weight) (graphOf s ps) masks (length ps)
 
+-- what scoring them answers
+abbrev pub layerScoring : Settings → List Piece → List ℕ → Scoring
+layerScoring s ps masks = record { score = layerScore s ps masks; tested = pairsOf (length ps) }
+
 -- ---- Demand 1: every call comes to an end of its own, whatever its input
 
 pub record Demand1 : Type 0 where
   pub settings : (masks spacing margin weight budget : ℕ) → Ends (λ s. settingsInRange s ≡ true) OfSettings (newSettings masks spacing margin weight budget)
   pub edge : (s : Settings) (a b : Piece) → Ends (λ e. e ≡ edgeOf s a b) (OfRecords 2) (edgeBetween s a b)
-  pub score : (s : Settings) (ps : List Piece) (masks : List ℕ) → Ends (λ r. r ≡ layerScore s ps masks) (OfMasks (length ps)) (scoreMasks s ps masks)
+  pub score : (s : Settings) (ps : List Piece) (masks : List ℕ) → Ends (λ r. r ≡ layerScoring s ps masks) (OfMasks (length ps)) (scoreMasks s ps masks)
   -- a mask for every piece, marked best or open
   pub decompose : (s : Settings) (ps : List Piece) (masks : List ℕ) → Ends (λ r. Assignment s ps (r .masks)) (OfMaskList (length ps)) (decomposeLayer s ps masks)
   pub read : (text : List ℕ) → Ends (λ l. Valid (l .settings) (l .pieces)) (OfText text) (readLayer text)
@@ -103,7 +108,9 @@ pub record Demand2 : Type 0 where
   pub conflicts : (s : Settings) (ps : List Piece) (u v : ℕ) → (graphOf s ps .conflicts u v ≡ 1) ↔ TooClose s (pieceAt ps u) (pieceAt ps v)
   pub stitches : (s : Settings) (ps : List Piece) (u v : ℕ) → (graphOf s ps .stitches u v ≡ 1) ↔ Stitchable s (pieceAt ps u) (pieceAt ps v)
   -- masks are scored if the layer is valid and they are an assignment of it, whole or half done, and only then
-  pub scored : (s : Settings) (ps : List Piece) (masks : List ℕ) → (scoreMasks s ps masks ≡ done (layerScore s ps masks)) ↔ (Valid s ps × HalfDone s ps masks)
+  pub scored : (s : Settings) (ps : List Piece) (masks : List ℕ) → (scoreMasks s ps masks ≡ done (layerScoring s ps masks)) ↔ (Valid s ps × HalfDone s ps masks)
+  -- beside a score stands one for each unordered pair of pieces
+  pub tested : (s : Settings) (ps : List Piece) (masks : List ℕ) (r : Scoring) → scoreMasks s ps masks ≡ done r → r .tested ≡ sumPairs (λ u v. 1) (length ps)
   -- with every piece set, every edge counts
   pub whole : (s : Settings) (ps : List Piece) (masks : List ℕ) → Valid s ps → Assignment s ps masks → EachEdge s ps masks
   -- setting more pieces lowers nothing

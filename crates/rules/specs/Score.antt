@@ -1,7 +1,7 @@
 -- Score (RULES 3). Masks are a list: the mask of vertex v stands at place v. Where they are set by hand, some may be missing yet.
 use mathlib.Core.Bool.{Bool, not, cond, _&&_}
 use mathlib.Core.List.{List}
-use Prim.Native.Nat.{ℕ, _+_, _*_}
+use Prim.Native.Nat.{ℕ, _+_, _-_, _*_, _/_}
 use lib.Dec.{eqb}
 use lib.ListN.{getD}
 use Rattle.rules.specs.declared.answers.Score.{Score}
@@ -47,6 +47,10 @@ scoreOf weight g masks n = record {
   stitches = stitchesOf g masks n;
   cost = costOf weight (conflictsOf g masks n) (stitchesOf g masks n);
 }
+
+-- how many unordered pairs n vertices have; scoring tests each of them for an edge once, whether its ends are set or not
+abbrev pub pairsOf : ℕ → ℕ
+pairsOf n = n * (n - 1) / 2
 
 -- what the edges between u on mask x and v on mask y cost
 unfoldable pub pairCost : ℕ → Graph → ℕ → ℕ → ℕ → ℕ → ℕ

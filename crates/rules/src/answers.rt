@@ -22,8 +22,14 @@ pub struct Score {
     pub cost: u32,
 }
 
+// What scoring answers: the score, and beside it how many unordered pairs of pieces were tested for an edge.
+pub struct Scoring {
+    pub score: Score,
+    pub tested: u32,
+}
+
 pub enum ScoreAnswer {
-    Scored(Score),
+    Scored(Scoring),
     Refused(Refusal, Place),
 }
 

@@ -11,6 +11,7 @@ pub use answers::LayerRead;
 pub use answers::ReadAnswer;
 pub use answers::Score;
 pub use answers::ScoreAnswer;
+pub use answers::Scoring;
 pub use answers::SettingsAnswer;
 pub use answers::Verdict;
 pub use answers::WriteAnswer;

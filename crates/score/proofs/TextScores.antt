@@ -17,7 +17,7 @@ use Rattle.rules.specs.Answers.{scoreAnswer}
 use Rattle.rules.specs.Calls.{scoreMasks}
 use Rattle.rules.specs.Edges.{graphOf}
 use Rattle.rules.specs.Questions.{Outcome, done, ask, andThen, askEach, Valid, judgeLayer, readLayer}
-use Rattle.rules.specs.Score.{unset, scoreOf}
+use Rattle.rules.specs.Score.{unset, scoreOf, pairsOf}
 use Rattle.rules.specs.Units.{unitOf, fitsUnit}
 use Rattle.rules.proofs.Outcomes.{accepted, ends-ask, ends-each, each-ext, ask-yes, then-same}
 use Rattle.rules.proofs.Ranges.{within-facts, settings-facts}
@@ -101,7 +101,7 @@ same-score s ps ns =
     let all = eqb-true (length ns) (length ps) (ask-yes (eqb (length ns) (length ps)) 7 Place.Nothing counts) in
     rw (asked s ps ns valid all)
     (then-same (askEach (question s ps ns valid all ns) (length ps)) λ _ below.
-    ap (λ (ms : List ℕ). andThen (askEach (λ i. ask (fitsUnit (unitOf s ps) (length ps) ms i) 12 (Place.Piece i)) (length ps)) λ _. done (scoreOf (s .weight) (graphOf s ps) ms (length ps)))
+    ap (λ (ms : List ℕ). andThen (askEach (λ i. ask (fitsUnit (unitOf s ps) (length ps) ms i) 12 (Place.Piece i)) (length ps)) λ _. done (record { score = scoreOf (s .weight) (graphOf s ps) ms (length ps); tested = pairsOf (length ps) }))
     (as-numbers s ps ns valid all below)))
 
 -- masks that were stored from a text of mask lines, in room for 513

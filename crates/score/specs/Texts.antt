@@ -2,7 +2,7 @@
 use mathlib.Core.List.{List}
 use mathlib.Core.Path.{_≡_}
 use Prim.Native.Nat.{ℕ}
-use Rattle.rules.specs.declared.answers.Score.{Score}
+use Rattle.rules.specs.declared.answers.Scoring.{Scoring}
 use Rattle.rules.specs.declared.answers.ScoreAnswer.{ScoreAnswer}
 use Rattle.rules.specs.Answers.{scoreAnswer}
 use Rattle.rules.specs.Calls.{scoreMasks}
@@ -12,7 +12,7 @@ use Rattle.score.specs.declared.texts.Scored.{Scored}
 use Rattle.score.specs.Masks.{BadLine}
 
 -- the score of masks on the layer that a text states
-abbrev pub scoreText : List ℕ → List ℕ → Outcome Score
+abbrev pub scoreText : List ℕ → List ℕ → Outcome Scoring
 scoreText layer masks = andThen (readLayer layer) λ l. scoreMasks (l .settings) (l .pieces) masks
 
 -- the second text is the mask lines of the numbers that are scored, of whatever size and however many

@@ -1,5 +1,5 @@
 // The score of masks that were set by hand: `score LAYER-FILE MASK-FILE` prints the conflicts, the stitches and the cost of the
-// masks on the layer, or the refusal (RULES 11 and 12). What keeps the files from being scored is said on standard error, and then
+// masks on the layer, and how many pairs of pieces were tested for an edge, or the refusal (RULES 11 and 12). What keeps the files from being scored is said on standard error, and then
 // nothing is printed.
 mod masks;
 mod texts;
@@ -9,8 +9,8 @@ use libc::STDERR_FILENO;
 use libc::STDOUT_FILENO;
 use rules::Place;
 use rules::Refusal;
-use rules::Score;
 use rules::ScoreAnswer;
+use rules::Scoring;
 use texts::Scored;
 use texts::score_texts;
 
@@ -22,10 +22,12 @@ fn print_line(key: &[u8], n: u32) {
     io::write_all(STDOUT_FILENO, b"\n");
 }
 
-fn print_score(score: Score) {
+fn print_score(scoring: Scoring) {
+    let score = scoring.score;
     print_line(b"conflicts=", score.conflicts);
     print_line(b"stitches=", score.stitches);
     print_line(b"cost=", score.cost);
+    print_line(b"tested=", scoring.tested);
 }
 
 fn print_refusal(refusal: Refusal, place: Place) {
@@ -36,7 +38,7 @@ fn print_refusal(refusal: Refusal, place: Place) {
 
 fn print_answer(answer: ScoreAnswer) {
     match answer {
-        ScoreAnswer::Scored(score) => print_score(score),
+        ScoreAnswer::Scored(scoring) => print_score(scoring),
         ScoreAnswer::Refused(refusal, place) => print_refusal(refusal, place),
     }
 }

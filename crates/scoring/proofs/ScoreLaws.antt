@@ -24,7 +24,7 @@ use Rattle.layout.proofs.PieceLaws.{pieces-length}
 use Rattle.adjacency.proofs.AdjacencyLaws.{words-edges}
 use Rattle.units.specs.Numbered.{UnitsOf}
 use Rattle.theory.proofs.Units.{grouping}
-use Rattle.scoring.specs.ScoreWords.{oneMask, twoMasks, allowedMask, maskQuestion, unitQuestion, unitsScored}
+use Rattle.scoring.specs.ScoreWords.{oneMask, twoMasks, allowedMask, maskQuestion, unitQuestion, scoringOf, unitsScored}
 use Rattle.rules.proofs.Finding.{find-same}
 use Rattle.rules.proofs.Lists.{in-upTo}
 use Rattle.rules.proofs.Outcomes.{each-ext}
@@ -109,8 +109,8 @@ module _ (s : Settings) (flat : List ℕ) (n : ℕ) (masks : List ℕ) (long : l
 
   -- what comes of the answer to 12
   pub split-asked : {o : Outcome (Unit {0})} → o ≡ askEach (unitQuestion (unitAt units) (length masks) masks) (length masks)
-      → (andThen o λ _. done (scoreOf (s .weight) (graphOf s (piecesOf flat n)) masks n)) ≡ unitsScored s (piecesOf flat n) n masks
+      → (andThen o λ _. done (scoringOf s (piecesOf flat n) n masks)) ≡ unitsScored s (piecesOf flat n) n masks
   split-asked e =
       let same : askEach (unitQuestion (unitAt units) (length masks) masks) (length masks) ≡ askEach (unitQuestion (unitOf s (piecesOf flat n)) n masks) n
       = ap (λ (k : ℕ). askEach (unitQuestion (unitAt units) k masks) k) long ∙ each-ext n (λ i l. ap (λ (b : Bool). ask b 12 (Place.Piece i)) (fits-is i l)) in
-      ap (λ (a : Outcome (Unit {0})). andThen a λ _. done (scoreOf (s .weight) (graphOf s (piecesOf flat n)) masks n)) (e ∙ same)
+      ap (λ (a : Outcome (Unit {0})). andThen a λ _. done (scoringOf s (piecesOf flat n) n masks)) (e ∙ same)

@@ -6,11 +6,11 @@ use lib.Dec.{eqb, ltb}
 use Rattle.bitset.specs.Bits.{hasEdge}
 use Rattle.rules.specs.declared.layer.Settings.{Settings}
 use Rattle.rules.specs.declared.layer.Piece.{Piece}
-use Rattle.rules.specs.declared.answers.Score.{Score}
+use Rattle.rules.specs.declared.answers.Scoring.{Scoring}
 use Rattle.rules.specs.declared.refusal.Place.{Place}
 use Rattle.rules.specs.Basics.{given}
 use Rattle.rules.specs.Edges.{graphOf}
-use Rattle.rules.specs.Score.{maskOf, unset, isSet, scoreOf}
+use Rattle.rules.specs.Score.{maskOf, unset, isSet, scoreOf, pairsOf}
 use Rattle.rules.specs.Units.{unitOf, fitsUnit}
 use Rattle.rules.specs.Questions.{Outcome, done, ask, andThen, askEach}
 
@@ -42,6 +42,10 @@ maskQuestion limit masks i = ask (not (isSet masks i) || ltb (maskOf masks i) li
 abbrev pub unitQuestion : (ℕ → ℕ) → ℕ → List ℕ → ℕ → Outcome (Unit {0})
 unitQuestion unit n masks i = ask (fitsUnit unit n masks i) 12 (Place.Piece i)
 
+-- the score, and beside it the pairs tested
+abbrev pub scoringOf : Settings → List Piece → ℕ → List ℕ → Scoring
+scoringOf s ps n masks = record { score = scoreOf (s .weight) (graphOf s ps) masks n; tested = pairsOf n }
+
 -- 12 of every piece, then the score
-abbrev pub unitsScored : Settings → List Piece → ℕ → List ℕ → Outcome Score
-unitsScored s ps n masks = andThen (askEach (unitQuestion (unitOf s ps) n masks) n) λ _. done (scoreOf (s .weight) (graphOf s ps) masks n)
+abbrev pub unitsScored : Settings → List Piece → ℕ → List ℕ → Outcome Scoring
+unitsScored s ps n masks = andThen (askEach (unitQuestion (unitOf s ps) n masks) n) λ _. done (scoringOf s ps n masks)

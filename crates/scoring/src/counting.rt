@@ -11,14 +11,14 @@ use rules::Piece;
 use rules::Score;
 
 // Whether two masks are set and one.
-fn on_one_mask(a: u8, b: u8) -> bool
+pub fn on_one_mask(a: u8, b: u8) -> bool
     ensures { λ r. ⌜ r ≡ oneMask a b ⌝ }
 {
     a == b && b != Piece::UNSET
 }
 
 // Whether two masks are set and two.
-fn on_two_masks(a: u8, b: u8) -> bool
+pub fn on_two_masks(a: u8, b: u8) -> bool
     ensures { λ r. ⌜ r ≡ twoMasks a b ⌝ }
 {
     if a == b {
@@ -39,7 +39,7 @@ fn counts(one: bool, a: u8, b: u8) -> bool
 }
 
 // 1 where an edge counts.
-fn counted(yes: bool) -> u32
+pub fn counted(yes: bool) -> u32
     ensures { λ r. ⌜ r ≡ given yes 1 ⌝ }
 {
     if yes { 1 } else { 0 }
@@ -66,7 +66,7 @@ fn count_edges(words: &[u64; 4096], masks: &[u8], j: usize, one: bool) -> u32
 }
 
 // What conflicts and stitches cost. There is at most one of each for each pair.
-fn cost_of(weight: u32, conflicts: u32, stitches: u32) -> u32
+pub fn cost_of(weight: u32, conflicts: u32, stitches: u32) -> u32
     requires { ⌜ weight ≤ 1000 ⌝ }
     requires { ⌜ conflicts ≤ 130816 ⌝ }
     requires { ⌜ stitches ≤ 130816 ⌝ }

@@ -9,13 +9,18 @@ ghost use Rattle.layout.specs.Flat.{piecesOf};
 ghost use Rattle.layout.specs.Judged.{judgement};
 ghost use Rattle.adjacency.specs.UnitGraph.{unitAt};
 ghost use Rattle.scoring.specs.ScoreWords.{allowedMask, maskQuestion, unitQuestion, unitsScored};
+ghost use Rattle.scoring.specs.PairTests.{tallied};
 ghost use Rattle.scoring.specs.UnitMasks.{fitsNoted, notedAfter};
-use crate::counting::score_words;
+use crate::counting::cost_of;
+use crate::pairs::Tally;
+use crate::pairs::test_pairs;
 use layout::Judgement;
 use rules::Piece;
 use rules::Place;
 use rules::Refusal;
+use rules::Score;
 use rules::ScoreAnswer;
+use rules::Scoring;
 use rules::Settings;
 
 // Whether a mask is below the limit, or not set.
@@ -72,24 +77,41 @@ fn judge_units(units: &[u16; 512], masks: &[u8]) -> Judgement
     Judgement::Passed
 }
 
+// The score of the counted conflicts and stitches, and beside it the pairs tested.
+fn scoring_of(weight: u32, tally: Tally) -> Scoring
+    requires { ⌜ weight ≤ 1000 ⌝ }
+    requires { ⌜ tally .conflicts ≤ 130816 ⌝ }
+    requires { ⌜ tally .stitches ≤ 130816 ⌝ }
+    ensures { λ r. ⌜ r ≡ tallied weight tally ⌝ }
+{
+    Scoring {
+        score: Score {
+            conflicts: tally.conflicts,
+            stitches: tally.stitches,
+            cost: cost_of(weight, tally.conflicts, tally.stitches),
+        },
+        tested: tally.tested,
+    }
+}
+
 // The score of masks on a judged layer, or refusal 12.
 fn score_units(settings: Settings, flat: &[u32; 2560], n: usize, masks: &[u8]) -> ScoreAnswer
     requires { ⌜ Valid settings (piecesOf (now flat) n) ⌝ }
     requires { ⌜ length (now masks) ≡ n ⌝ }
     ensures { λ r. ⌜ scoreAnswer r ≡ unitsScored settings (piecesOf (now (flat .entry)) n) n (now (masks .entry)) ⌝ }
 {
-    let mut conflicts = [0u64; 4096];
-    let mut stitches = [0u64; 4096];
+    let mut ties = [0u64; 4096];
     let mut units = [0u16; 512];
-    units::layer_units(settings, flat, n, &mut conflicts, &mut stitches, &mut units);
+    let tally = test_pairs(settings, flat, n, masks, &mut ties);
+    units::number_units(&ties, n, &mut units);
     let judged = judge_units(&units, masks);
     if let Judgement::Refused(refusal, place) = judged {
         return ScoreAnswer::Refused(refusal, place);
     }
-    ScoreAnswer::Scored(score_words(settings.weight, &conflicts, &stitches, n, masks))
+    ScoreAnswer::Scored(scoring_of(settings.weight, tally))
 }
 
-// The score of any masks on any pieces, or the first of the refusals 4 to 8 and 12.
+// The score of any masks on any pieces, with the number of pairs tested, or the first of the refusals 4 to 8 and 12.
 pub fn score_flat(settings: Settings, flat: &[u32; 2560], n: usize, masks: &[u8]) -> ScoreAnswer
     ensures { λ r. ⌜ scoreAnswer r ≡ scoreMasks settings (piecesOf (now (flat .entry)) n) (now (masks .entry)) ⌝ }
 {

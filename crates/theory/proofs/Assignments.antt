@@ -20,7 +20,7 @@ use Rattle.rules.specs.Score.{maskOf, isSet, scoreOf}
 use Rattle.rules.specs.Units.{unitOf, lowestSet, fitsUnit}
 use Rattle.rules.specs.Questions.{done, ask, askEach, judgeLayer, Valid}
 use Rattle.rules.specs.Calls.{scoreMasks}
-use Rattle.rules.specs.Demands.{Assignment, Extends, HalfDone, EachEdge, layerScore}
+use Rattle.rules.specs.Demands.{Assignment, Extends, HalfDone, EachEdge, layerScoring}
 use Rattle.rules.proofs.Finding.{find-one}
 use Rattle.rules.proofs.Lists.{any-found, in-upTo, length-upTo, mapped-upTo}
 use Rattle.rules.proofs.Outcomes.{ends-ask, ends-each, accepted, each-passes, then-with, ask-yes}
@@ -141,14 +141,14 @@ module _ (s : Settings) (ps : List Piece) (masks : List ℕ) where
   passes : (test : ℕ → Bool) (number : ℕ) → ((i : ℕ) → i < length ps → test i ≡ true) → askEach (λ i. ask (test i) number (Place.Piece i)) (length ps) ≡ done tt
   passes test number h = each-passes _ (length ps) (λ i l. rw (h i l))
 
-  pub scored-exactly : (scoreMasks s ps masks ≡ done (layerScore s ps masks)) ↔ (Valid s ps × HalfDone s ps masks)
+  pub scored-exactly : (scoreMasks s ps masks ≡ done (layerScoring s ps masks)) ↔ (Valid s ps × HalfDone s ps masks)
   unfolding scoreMasks
   scored-exactly = (
     λ e.
-        then-with (judgeLayer s ps) _ (layerScore s ps masks) e λ _ valid e1.
-        then-with (ask (eqb (length masks) (length ps)) 7 Place.Nothing) _ (layerScore s ps masks) e1 λ _ count e2.
-        then-with (askEach _ (length ps)) _ (layerScore s ps masks) e2 λ _ low e3.
-        then-with (askEach _ (length ps)) _ (layerScore s ps masks) e3 λ _ units _. (
+        then-with (judgeLayer s ps) _ (layerScoring s ps masks) e λ _ valid e1.
+        then-with (ask (eqb (length masks) (length ps)) 7 Place.Nothing) _ (layerScoring s ps masks) e1 λ _ count e2.
+        then-with (askEach _ (length ps)) _ (layerScoring s ps masks) e2 λ _ low e3.
+        then-with (askEach _ (length ps)) _ (layerScoring s ps masks) e3 λ _ units _. (
           valid,
           record {
             size = eqb-true _ _ (ask-yes (eqb (length masks) (length ps)) 7 Place.Nothing count);

@@ -11,9 +11,12 @@ use Rattle.rules.specs.Basics.{upTo}
 use Rattle.rules.specs.Settings.{pieceAt}
 use Rattle.rules.specs.Edges.{tied}
 use Rattle.rules.specs.Components.{components}
+use Rattle.rules.specs.Questions.{Valid}
 use Rattle.rules.specs.Units.{tieGraph, unitsOf, unitOf, partOf, unitNumbers}
 use Rattle.rules.proofs.Edges.{tie-sym}
 use Rattle.rules.proofs.Lists.{in-upTo}
+use Rattle.layout.specs.Flat.{piecesOf}
+use Rattle.layout.proofs.PieceLaws.{pieces-length, valid-flat}
 use Rattle.adjacency.specs.Adjacency.{Ties, wordGraph, BothWays}
 use Rattle.adjacency.specs.UnitGraph.{unitAt}
 use Rattle.adjacency.proofs.AdjacencyLaws.{words-symmetric, words-edges}
@@ -35,7 +38,7 @@ module _ (s : Settings) (ps : List Piece) (n : ℕ) {ties : List ℕ} (holds : T
     units-same : components (wordGraph ties ties) (upTo n) ≡ unitsOf s ps
     units-same = rw size (components-same (upTo n) ties-joined)
 
-    pub layer-numbered : {before units numbers : List ℕ} → Numbered ties n before units numbers → UnitsOf s ps before units numbers
+    layer-numbered : {before units numbers : List ℕ} → Numbered ties n before units numbers → UnitsOf s ps before units numbers
     layer-numbered {units} numbered =
         let unit : (i : ℕ) → i < n → unitAt units i ≡ unitOf s ps i = λ i h. numbered .unit i h ∙ ap (λ (cs : List (List ℕ)). partOf cs i) units-same in
         record {
@@ -44,3 +47,8 @@ module _ (s : Settings) (ps : List Piece) (n : ℕ) {ties : List ℕ} (holds : T
           past = λ i h. numbered .past i (omega (arith, size));
           numbers = numbered .numbers ∙ numbers-same (unitAt units) n unit ∙ ap (unitNumbers (unitOf s ps)) (sym size);
         }
+
+-- the same of pieces as numbers
+pub flat-numbered : (s : Settings) (flat : List ℕ) (n : ℕ) {ties before units numbers : List ℕ} → Valid s (piecesOf flat n) → Ties s (piecesOf flat n) n ties
+    → Numbered ties n before units numbers → UnitsOf s (piecesOf flat n) before units numbers
+flat-numbered s flat n valid holds = layer-numbered s (piecesOf flat n) n holds (valid-flat s flat n valid .count) (pieces-length flat n)

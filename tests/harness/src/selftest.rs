@@ -15,13 +15,13 @@ pub fn selftest(seed: u64, rounds: u64, score_rounds: u64) -> bool {
     let mut all = !found(right, limits, seed, 2)
         & !found(right, stream_limits, seed, 2)
         & !found_in_scores(right, seed, 20);
-    for fault in Mutation::OF_LAYERS {
+    for fault in [&Mutation::OF_EDGES[..], &Mutation::OF_LAYERS].concat() {
         all &= found(fault, limits, seed, rounds);
     }
     for fault in Mutation::OF_STREAMS {
         all &= found(fault, stream_limits, seed, rounds);
     }
-    for fault in Mutation::OF_SCORES {
+    for fault in [&Mutation::OF_EDGES[..], &Mutation::OF_SCORES].concat() {
         all &= found_in_scores(fault, seed, score_rounds);
     }
     all

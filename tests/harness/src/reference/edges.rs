@@ -13,14 +13,26 @@ pub struct Edges {
 
 impl Edges {
     pub fn of(layer: &Layer, wrong: Mutation) -> Edges {
+        Edges::tested(layer, wrong, |_, _| {})
+    }
+
+    /// The same. Each test of a pair for an edge is told, with whether there is one. A tie is none.
+    pub fn tested(
+        layer: &Layer,
+        wrong: Mutation,
+        mut tell: impl FnMut((usize, usize), bool),
+    ) -> Edges {
         let (spacing, margin) = (layer.settings.spacing, layer.settings.margin);
         let mut edges = Edges::default();
         for (j, b) in layer.pieces.iter().enumerate() {
             for (i, a) in layer.pieces[..j].iter().enumerate() {
-                if is_conflict(a, b, spacing, wrong) {
+                let conflict = is_conflict(a, b, spacing, wrong);
+                let stitch = is_stitch(a, b, margin, wrong);
+                tell((i, j), conflict || stitch);
+                if conflict {
                     edges.conflicts.push((i, j));
                 }
-                if is_stitch(a, b, margin, wrong) {
+                if stitch {
                     edges.stitches.push((i, j));
                 }
                 if is_tie(a, b, margin, wrong) {

@@ -4,6 +4,7 @@
 //! Where the self-test can put a fault, a function takes a `Mutation`; `Mutation::None` is the rules.
 
 mod edges;
+mod faults;
 mod kinds;
 mod masks;
 mod mutation;
@@ -94,7 +95,7 @@ pub fn answer_score(layer: &[u8], masks: &[u8], wrong: Mutation) -> Option<Answe
         return Some(Err(Refusal::new(7, 0)));
     }
     let scored = read(layer, wrong).and_then(|layer| score(&layer, &masks, wrong));
-    Some(scored.map(|score| score.text().into_bytes()))
+    Some(scored.map(|scored| scored.text().into_bytes()))
 }
 
 /// What a program prints for an answer (RULES 12).

@@ -26,10 +26,28 @@ impl Score {
     }
 }
 
+/// What is said of given masks.
+#[derive(Clone, Copy, Debug, PartialEq, Eq)]
+pub struct Scored {
+    pub score: Score,
+    /// How many unordered pairs of pieces were tested for an edge.
+    pub tested: u64,
+}
+
+impl Scored {
+    /// All that is printed of it.
+    pub fn text(&self) -> String {
+        format!("{}tested={}\n", self.score.text(), self.tested)
+    }
+}
+
 /// The score of given masks of a valid layer, with questions 7, 8 and 12.
-pub fn score(layer: &Layer, masks: &[u64], wrong: Mutation) -> Result<Score, Refusal> {
+pub fn score(layer: &Layer, masks: &[u64], wrong: Mutation) -> Result<Scored, Refusal> {
     let mut masks = judge_count(masks, layer.pieces.len(), wrong)?;
-    let mut edges = Edges::of(layer, wrong);
+    let mut tested = 0;
+    let mut edges = Edges::tested(layer, wrong, |pair, is_edge| {
+        tested += counted(pair, is_edge, &masks, wrong);
+    });
     let units = units(layer.pieces.len(), &edges.ties, wrong);
     let judged = Judged {
         limit: layer.settings.masks,
@@ -45,7 +63,20 @@ pub fn score(layer: &Layer, masks: &[u64], wrong: Mutation) -> Result<Score, Ref
         }
         _ => {}
     }
-    Ok(score_of_edges(&edges, &masks, layer.settings.weight, wrong))
+    let score = score_of_edges(&edges, &masks, layer.settings.weight, wrong);
+    Ok(Scored { score, tested })
+}
+
+/// How often a test of a pair, the lower piece first, is counted: once, whatever is found and set.
+fn counted((a, b): (usize, usize), is_edge: bool, masks: &[u64], wrong: Mutation) -> u64 {
+    match wrong {
+        Mutation::EdgesCounted => u64::from(is_edge),
+        Mutation::UnsetNotCounted => u64::from(is_set(masks[a]) && is_set(masks[b])),
+        Mutation::CountedFromBothEnds => 2,
+        // Only the last pair begins with the last piece but one.
+        Mutation::LastPairNotCounted => u64::from(a + 2 != masks.len()),
+        _ => 1,
+    }
 }
 
 /// A fault: pieces that are not set have the mask of another one of their unit.

@@ -1,4 +1,6 @@
-//! Scores of given masks: the worked cases of RULES 17, and more of what is half done.
+//! Scores of given masks: the worked cases of RULES 17, more of what is half done, and the count of tested pairs.
+
+use std::collections::BTreeSet;
 
 use super::tests::{layer, WIRE};
 use super::*;
@@ -7,7 +9,7 @@ use super::*;
 fn scored(pieces: &[[u64; 5]], masks: &[u64]) -> Result<[u64; 3], (u64, u64)> {
     let found = score(&layer(2, 0, pieces), masks, Mutation::None);
     let numbers = |score: Score| [score.conflicts, score.stitches, score.cost];
-    (found.map(numbers)).map_err(|refusal| (refusal.number, refusal.place))
+    (found.map(|found| numbers(found.score))).map_err(|refusal| (refusal.number, refusal.place))
 }
 
 /// Pieces 0, 3 and 2 are tied, each to the next.
@@ -64,6 +66,70 @@ fn only_255_is_not_set() {
     ] {
         assert_eq!(scored(&WIRE, &[255, mask, 255, mask]), Err((8, 1)));
     }
+}
+
+/// Squares in a row, each in conflict with the next two on either side and no others.
+fn squares(count: u64) -> Layer {
+    let square = |number| [number, 40 * number, 0, 40 * number + 20, 20];
+    layer(2, 0, &(0..count).map(square).collect::<Vec<_>>())
+}
+
+#[test]
+fn each_pair_counts_once() {
+    for pieces in [0, 1, 2, 3, 4, 5, 6, 7, 31, 32, 363, 511, 512] {
+        let masks: [&dyn Fn(u64) -> u64; 6] = [
+            &|_| 0,
+            &|_| UNSET,
+            &|piece| piece % 2,
+            &|piece| if piece % 3 == 0 { UNSET } else { 1 },
+            &|piece| if piece == 0 { 1 } else { UNSET },
+            &|piece| if piece + 1 == pieces { UNSET } else { 1 },
+        ];
+        for mask in masks {
+            let masks: Vec<u64> = (0..pieces).map(mask).collect();
+            let found = score(&squares(pieces), &masks, Mutation::None);
+            let tested = found.map(|found| found.tested);
+            assert_eq!(tested, Ok(pieces * pieces.saturating_sub(1) / 2));
+        }
+    }
+}
+
+#[test]
+fn no_pair_is_met_twice() {
+    for layer in [squares(9), layer(2, 0, &CHAIN), layer(2, 0, &TWO_STITCHES)] {
+        let (mut met, mut with_edges) = (BTreeSet::new(), Vec::new());
+        let edges = Edges::tested(&layer, Mutation::None, |pair, is_edge| {
+            assert!(pair.0 < pair.1 && met.insert(pair));
+            with_edges.extend(is_edge.then_some(pair));
+        });
+        let pieces = layer.pieces.len();
+        assert_eq!(met.len(), pieces * (pieces - 1) / 2);
+        let mut found = [edges.conflicts, edges.stitches].concat();
+        found.sort_unstable();
+        with_edges.sort_unstable();
+        assert_eq!(with_edges, found);
+    }
+}
+
+#[test]
+fn the_count_is_the_last_line() {
+    let text = layer(2, 0, &CHAIN).text();
+    let said = |masks: &[u64]| {
+        let masks = mask_lines(masks);
+        let answer = answer_score(&text, masks.as_bytes(), Mutation::None);
+        answer.map(|answer| String::from_utf8_lossy(&printed(&answer)).into_owned())
+    };
+    let expected = |text: &str| Some(String::from(text));
+    assert_eq!(
+        said(&[1, 1, 1, 1, 0]),
+        expected("conflicts=3\nstitches=0\ncost=30\ntested=10\n")
+    );
+    assert_eq!(
+        said(&[255; 5]),
+        expected("conflicts=0\nstitches=0\ncost=0\ntested=10\n")
+    );
+    assert_eq!(said(&[0, 1, 1, 1, 1]), expected("refused=12,2\n"));
+    assert_eq!(said(&[0, 1, 1, 1]), expected("refused=7,0\n"));
 }
 
 #[test]

@@ -172,8 +172,8 @@ mod tests {
         let knot = knot();
         assert_eq!(reference::units_of(&knot), [0, 1, 0, 0, 4]);
         let counts = |masks: &[u64]| {
-            let score = reference::score(&knot, masks, Mutation::None);
-            score.map(|score| (score.conflicts, score.stitches))
+            let scored = reference::score(&knot, masks, Mutation::None);
+            scored.map(|scored| (scored.score.conflicts, scored.score.stitches))
         };
         assert_eq!(counts(&[0, 0, 0, 0, 0]), Ok((4, 0)));
         assert_eq!(counts(&[0, 1, 0, 0, 1]), Ok((1, 2)));

@@ -1,8 +1,8 @@
 -- `layer_units`: the words of ties join both ways, and their units are those of the layer. Assumes nothing.
 use borrow.Author.Needs.{needs}
 use Rattle.layout.specs.Flat.{piecesOf}
-use Rattle.layout.proofs.PieceLaws.{pieces-length, valid-flat}
-use Rattle.units.proofs.TieUnits.{ties-ways, layer-numbered}
+use Rattle.layout.proofs.PieceLaws.{valid-flat}
+use Rattle.units.proofs.TieUnits.{ties-ways, flat-numbered}
 use Rattle.units.proofs.numbering.layer_units.Statement.{statement}
 use Rattle.units.proofs.numbering.layer_units.Tie as tie
 
@@ -22,12 +22,7 @@ returns c =
     let told = c .before .before .before in
     let start = told .before .before .before .before in
     let args = start .args in
-    let s = args .settings in
-    let flat = args .flat .now in
-    let n = args .n in (
-      told .adjacency-words .ensures .0,
-      layer-numbered s (piecesOf flat n) n (told .adjacency-words .ensures .1) (valid-flat s flat n (start .pre .0) .count) (pieces-length flat n) (c .number-units .ensures),
-    )
+    (told .adjacency-words .ensures .0, flat-numbered (args .settings) (args .flat .now) (args .n) (start .pre .0) (told .adjacency-words .ensures .1) (c .number-units .ensures))
 
 pub layer-units-spec : {M : Type 1} → statement M
 layer-units-spec = tie.close (tie.spec adjacency-words-requires number-units-requires returns)
