@@ -3,6 +3,8 @@
 //
 // 0 none, 1 reading the text, 2 judging the numbers, 3 adjacency words and units, 4 the words of units, 5 peeling, 6 the search of the core, 7 putting
 // back and the score, 8 writing the result text, 9 printing it.
+//
+// Two more stand beside these, each after stage 2, and score masks that are all 0: 10 as `score` does, pair by pair, and 11 from adjacency words.
 ghost use mathlib.Core.Bool.{true};
 ghost use mathlib.Core.List.{[], _∷_};
 ghost use mathlib.Core.Path.{_≡_};
@@ -17,6 +19,7 @@ use libc::STDIN_FILENO;
 use libc::STDOUT_FILENO;
 use rules::Piece;
 use rules::ReadAnswer;
+use rules::ScoreAnswer;
 use rules::Settings;
 
 // The numbers that a search starts with.
@@ -99,12 +102,45 @@ fn first_stages(last: u32, settings: Settings, flat: &[u32; 2560], masks: &mut [
     unit_stages(last, settings, &conflicts, &stitches, &units, &all, masks)
 }
 
-// Stages 3 to 9, on a list of as many masks as there are pieces.
+// Stage 11. The numbers are judged first, as a call on numbers does.
+fn score_from_words(settings: Settings, flat: &[u32; 2560], masks: &[u8]) -> u64
+    requires { ⌜ Valid settings (piecesOf (now flat) (length (now masks))) ⌝ }
+{
+    let n = masks.len();
+    let judgement = layout::judge(settings, flat, n);
+    if let Judgement::Refused(_, _) = judgement {
+        return 0;
+    }
+    let mut conflicts = [0u64; 4096];
+    let mut stitches = [0u64; 4096];
+    let mut units = [0u16; 512];
+    units::layer_units(settings, flat, n, &mut conflicts, &mut stitches, &mut units);
+    let score = scoring::score_words(settings.weight, &conflicts, &stitches, n, masks);
+    score.cost as u64
+}
+
+// Stages 10 and 11. Both answer the cost.
+fn score_stages(last: u32, settings: Settings, flat: &[u32; 2560], masks: &[u8]) -> u64
+    requires { ⌜ Valid settings (piecesOf (now flat) (length (now masks))) ⌝ }
+{
+    if last == 11 {
+        return score_from_words(settings, flat, masks);
+    }
+    match scoring::score_flat(settings, flat, masks.len(), masks) {
+        ScoreAnswer::Scored(scoring) => scoring.score.cost as u64,
+        ScoreAnswer::Refused(_, _) => 0,
+    }
+}
+
+// Stages 3 to 11, on a list of as many masks as there are pieces.
 fn run_stages(last: u32, settings: Settings, flat: &[u32; 2560], masks: &mut [u8]) -> u64
     requires { ⌜ Valid settings (piecesOf (now flat) (length (now masks))) ⌝ }
 {
     if last < 7 {
         return first_stages(last, settings, flat, masks);
+    }
+    if 9 < last {
+        return score_stages(last, settings, flat, masks);
     }
     let result = decomposer::decompose(settings, flat, masks.len(), masks);
     if last == 7 {
@@ -118,7 +154,7 @@ fn run_stages(last: u32, settings: Settings, flat: &[u32; 2560], masks: &mut [u8
     length as u64
 }
 
-// Stages 2 to 9.
+// Stages 2 to 11.
 fn judged_stages(last: u32, settings: Settings, pieces: [Piece; 512], count: usize) -> u64 {
     if 512 < count {
         return 0;
