@@ -28,14 +28,15 @@ def graph(pieces):
     return conflicts, stitches
 
 
-def core(conflicts, stitches, masks):
-    """What is left when no piece may go. A piece that may go still may when others are gone, so they can go together."""
+def core(conflicts, stitches, masks, fixed):
+    """What is left when no piece may go. A piece that may go still may when others are gone, so they can go together. One with a fixed mask
+    stays."""
     there = set(range(len(conflicts)))
 
     def may_go(v):
         stitched = len(stitches[v] & there)
         near = len(conflicts[v] & there)
-        return stitched == 0 and near < masks or stitched == 1 and near == 0
+        return v not in fixed and (stitched == 0 and near < masks or stitched == 1 and near == 0)
 
     while gone := {v for v in there if may_go(v)}:
         there -= gone

@@ -1,4 +1,5 @@
-"""Layers that are made from a seed, and their texts. A piece is its shape, X1, Y1, X2 and Y2."""
+"""Layers that are made from a seed, and their texts. A piece is its shape, X1, Y1, X2 and Y2; fixed masks stand beside, by the numbers of their
+pieces."""
 
 
 def draws(seed):
@@ -55,10 +56,17 @@ def chain(count, stride=1):
     return pieces
 
 
+def clocks(pieces, masks, every=8):
+    """Fixed masks: of so many wires one is fixed as a whole, and these wires have the masks in turn."""
+    return {number: shape // every % masks for number, (shape, *_) in enumerate(pieces) if shape % every == 0}
+
+
 SPACING, MARGIN, WEIGHT = 80, 10, 10
 
 
-def text(pieces, masks, budget):
+def text(pieces, masks, budget, fixed={}):
     """The layer text (RULES 9)."""
     settings = (("masks", masks), ("spacing", SPACING), ("margin", MARGIN), ("weight", WEIGHT), ("budget", budget), ("pieces", len(pieces)))
-    return "".join(f"{key}={value}\n" for key, value in settings) + "".join("piece=%d,%d,%d,%d,%d\n" % piece for piece in pieces)
+    lines = [f"{key}={value}\n" for key, value in settings]
+    lines += ["piece=%d,%d,%d,%d,%d\n" % piece for piece in pieces]
+    return "".join(lines + ["fixed=%d,%d\n" % line for line in sorted(fixed.items())])

@@ -24,15 +24,20 @@ def clique_rows(found, masks):
     return [total(f"c_{u}_{v}" for u, v in combinations(part, 2)) + f" >= {least_conflicts(len(part), masks)}" for part in sorted(parts)]
 
 
-def component(conflicts, stitches, members, masks, with_cliques):
+def mask_rows(largest_clique, members, masks, fixed):
+    """The masks that are settled: the fixed ones. Without any, masks can be renamed, so that piece p of a largest clique needs none above p."""
+    settled = [f"x_{v}_{fixed[v]} = 1" for v in members if v in fixed]
+    return settled or [f"x_{v}_{m} = 0" for p, v in enumerate(largest_clique) for m in range(p + 1, masks)]
+
+
+def component(conflicts, stitches, members, masks, fixed, with_cliques):
     inside = set(members)
     near, stitched = ([(u, v) for u in members for v in sorted(edges[u] & inside) if u < v] for edges in (conflicts, stitches))
     found = graph.cliques(conflicts, members)
     rows = [total(f"x_{v}_{m}" for m in range(masks)) + " = 1" for v in members]
     rows += [f"x_{u}_{m} + x_{v}_{m} - c_{u}_{v} <= 1" for u, v in near for m in range(masks)]
     rows += [f"x_{u}_{m} - x_{v}_{m} - s_{u}_{v} <= 0" for u, v in stitched for m in range(masks)]
-    # Masks can be renamed: piece p of a largest clique needs no mask above p.
-    rows += [f"x_{v}_{m} = 0" for p, v in enumerate(max(found, key=len)) for m in range(p + 1, masks)]
+    rows += mask_rows(max(found, key=len), members, masks, fixed)
     if with_cliques:
         rows += clique_rows(found, masks)
     cost = [f"{WEIGHT} c_{u}_{v}" for u, v in near] + [f"s_{u}_{v}" for u, v in stitched]

@@ -12,9 +12,12 @@
 
 use std::env;
 use std::io::{self, BufWriter, Read, Write};
+use std::ops::Range;
 
 const PIECES_GREATEST: usize = 512;
 const MASKS_GREATEST: usize = 8;
+/// Stands for the fixed mask of a piece that has none.
+const NOT_FIXED: u8 = 255;
 
 struct Settings {
     masks: usize,
@@ -30,6 +33,7 @@ struct Piece {
     y1: i64,
     x2: i64,
     y2: i64,
+    fixed: u8,
 }
 
 // ---- edges, ties and units (RULES 2 and 17)
@@ -72,6 +76,8 @@ fn edge(settings: &Settings, a: &Piece, b: &Piece) -> Edge {
 struct Graph {
     /// The unit of each piece.
     units: Vec<u16>,
+    /// The fixed mask of each unit.
+    fixed: Vec<u8>,
     conflicts: Vec<Vec<u16>>,
     stitches: Vec<Vec<u16>>,
 }
@@ -105,10 +111,22 @@ fn graph(settings: &Settings, pieces: &[Piece]) -> Graph {
         stitches = merged(&stitches, &units);
     }
     Graph {
+        fixed: fixed_units(pieces, &units),
         units,
         conflicts,
         stitches,
     }
+}
+
+/// The fixed masks of units. Those of the pieces of one unit do not differ.
+fn fixed_units(pieces: &[Piece], units: &[u16]) -> Vec<u8> {
+    let mut fixed = vec![NOT_FIXED; pieces.len()];
+    for (piece, &unit) in pieces.iter().zip(units) {
+        if piece.fixed != NOT_FIXED {
+            fixed[unit as usize] = piece.fixed;
+        }
+    }
+    fixed
 }
 
 /// The lowest piece of a unit. Each piece names one of its unit that is not above it, and the lowest itself.
@@ -159,20 +177,24 @@ struct Peeled {
     removals: Vec<Removal>,
 }
 
-/// A unit that may go still may when others are gone, so the units that may are kept, and only neighbours are looked at again.
+/// A unit that may go still may when others are gone, so the units that may are kept, and only neighbours are looked at again. Fixed units
+/// stay.
 fn peel(settings: &Settings, graph: &Graph) -> Peeled {
     let n = graph.conflicts.len();
     let mut core: Vec<bool> = (0..n).map(|v| graph.units[v] as usize == v).collect();
     let degrees = |lists: &[Vec<u16>]| lists.iter().map(|list| distinct(list).count()).collect();
     let mut near: Vec<usize> = degrees(&graph.conflicts);
     let mut stitched: Vec<usize> = degrees(&graph.stitches);
-    let may_go = |near: usize, stitched: usize| match stitched {
-        0 => near < settings.masks,
-        1 => near == 0,
-        _ => false,
+    let may_go = |v: usize, near: usize, stitched: usize| {
+        graph.fixed[v] == NOT_FIXED
+            && match stitched {
+                0 => near < settings.masks,
+                1 => near == 0,
+                _ => false,
+            }
     };
     let mut ready: Vec<bool> = (0..n)
-        .map(|v| core[v] && may_go(near[v], stitched[v]))
+        .map(|v| core[v] && may_go(v, near[v], stitched[v]))
         .collect();
     let mut removals = Vec::new();
     let mut v = 0;
@@ -192,7 +214,7 @@ fn peel(settings: &Settings, graph: &Graph) -> Peeled {
         }
         for &u in graph.conflicts[v].iter().chain(&graph.stitches[v]) {
             let u = u as usize;
-            if core[u] && may_go(near[u], stitched[u]) {
+            if core[u] && may_go(u, near[u], stitched[u]) {
                 ready[u] = true;
                 next = next.min(u);
             }
@@ -289,16 +311,33 @@ fn added_row(earlier: &Neighbours, weight: u32, masks: &Masks, p: usize) -> Row 
     row
 }
 
-fn first_assignment(settings: &Settings, earlier: &Neighbours) -> (Masks, u32) {
+/// The masks that a place may have: the fixed one, or those below a number.
+#[inline]
+fn candidates(fixed: u8, most: usize) -> Range<usize> {
+    if fixed == NOT_FIXED {
+        return 0..most;
+    }
+    let mask = usize::from(fixed) % MASKS_GREATEST;
+    mask..mask + 1
+}
+
+/// `fixed` has the fixed mask of each place.
+fn first_assignment(settings: &Settings, earlier: &Neighbours, fixed: &[u8]) -> (Masks, u32) {
     let mut masks = [0; PIECES_GREATEST];
     let mut cost = 0;
     for p in 0..earlier.size() {
         let row = added_row(earlier, settings.weight, &masks, p);
-        let mask = (0..settings.masks).min_by_key(|&m| row[m]).unwrap_or(0);
+        let mask = candidates(fixed[p], settings.masks)
+            .min_by_key(|&m| row[m])
+            .unwrap_or(0);
         masks[p] = mask as u8;
         cost += row[mask];
     }
     (masks, cost)
+}
+
+fn has_fixed(fixed: &[u8]) -> bool {
+    fixed.iter().any(|&mask| mask != NOT_FIXED)
 }
 
 struct Outcome {
@@ -316,21 +355,35 @@ struct ListState {
 
 struct ListSearch<'a> {
     earlier: &'a Neighbours,
+    fixed: &'a [u8],
     size: usize,
     masks: usize,
     weight: u32,
 }
 
 impl ListSearch<'_> {
-    /// Searches the places from p on, and answers how many steps are left then.
-    fn place(&self, state: &mut ListState, p: usize, cost: u32, used: usize, mut left: u64) -> u64 {
+    /// Searches the places from p on, and answers how many steps are left then. Only a component with a fixed place has to look for them,
+    /// and then masks cannot be renamed, so that those in use are no limit.
+    fn place<const FIXED: bool>(
+        &self,
+        state: &mut ListState,
+        p: usize,
+        cost: u32,
+        used: usize,
+        mut left: u64,
+    ) -> u64 {
         if p == self.size {
             state.incumbent = state.partial;
             state.cost = cost;
             return left;
         }
         let row = added_row(self.earlier, self.weight, &state.partial, p);
-        for m in 0..self.masks.min(used + 1) {
+        let tried = if FIXED {
+            candidates(self.fixed[p], self.masks)
+        } else {
+            0..self.masks.min(used + 1)
+        };
+        for m in tried {
             if left == 0 {
                 state.stopped = true;
                 return 0;
@@ -339,7 +392,7 @@ impl ListSearch<'_> {
             let total = cost + row[m];
             if total < state.cost {
                 state.partial[p] = m as u8;
-                left = self.place(state, p + 1, total, used.max(m + 1), left);
+                left = self.place::<FIXED>(state, p + 1, total, used.max(m + 1), left);
             }
         }
         left
@@ -349,12 +402,14 @@ impl ListSearch<'_> {
 fn search_lists(
     settings: &Settings,
     earlier: &Neighbours,
+    fixed: &[u8],
     first: Masks,
     cost: u32,
     left: u64,
 ) -> Outcome {
     let search = ListSearch {
         earlier,
+        fixed,
         size: earlier.size(),
         masks: settings.masks.min(MASKS_GREATEST),
         weight: settings.weight,
@@ -365,7 +420,11 @@ fn search_lists(
         cost,
         stopped: false,
     };
-    let left = search.place(&mut state, 0, 0, 0, left);
+    let left = if has_fixed(fixed) {
+        search.place::<true>(&mut state, 0, 0, 0, left)
+    } else {
+        search.place::<false>(&mut state, 0, 0, 0, left)
+    };
     Outcome {
         incumbent: state.incumbent,
         left,
@@ -375,6 +434,7 @@ fn search_lists(
 
 struct PushSearch<'a> {
     later: &'a Neighbours,
+    fixed: &'a [u8],
     size: usize,
     masks: usize,
     weight: u32,
@@ -410,14 +470,19 @@ impl PushSearch<'_> {
         }
     }
 
-    /// Searches the places from p on.
-    fn place(&mut self, p: usize, cost: u32, used: usize) {
+    /// Searches the places from p on, with the masks of the other search.
+    fn place<const FIXED: bool>(&mut self, p: usize, cost: u32, used: usize) {
         if p == self.size {
             self.incumbent = self.partial;
             self.cost = cost;
             return;
         }
-        for m in 0..self.masks.min(used + 1) {
+        let tried = if FIXED {
+            candidates(self.fixed[p], self.masks)
+        } else {
+            0..self.masks.min(used + 1)
+        };
+        for m in tried {
             if self.left == 0 {
                 self.stopped = true;
                 return;
@@ -427,7 +492,7 @@ impl PushSearch<'_> {
             if total < self.cost {
                 self.partial[p] = m as u8;
                 self.push(p, m);
-                self.place(p + 1, total, used.max(m + 1));
+                self.place::<FIXED>(p + 1, total, used.max(m + 1));
                 self.take_back(p, m);
             }
         }
@@ -438,6 +503,7 @@ fn search_push(
     settings: &Settings,
     earlier: &Neighbours,
     later: &Neighbours,
+    fixed: &[u8],
     first: Masks,
     cost: u32,
     left: u64,
@@ -448,6 +514,7 @@ fn search_push(
     }
     let mut search = PushSearch {
         later,
+        fixed,
         size: later.size(),
         masks: settings.masks.min(MASKS_GREATEST),
         weight: settings.weight,
@@ -458,7 +525,11 @@ fn search_push(
         left,
         stopped: false,
     };
-    search.place(0, 0, 0);
+    if has_fixed(fixed) {
+        search.place::<true>(0, 0, 0);
+    } else {
+        search.place::<false>(0, 0, 0);
+    }
     Outcome {
         incumbent: search.incumbent,
         left: search.left,
@@ -480,12 +551,13 @@ fn search_component(
     left: u64,
 ) -> Outcome {
     let earlier = Neighbours::new(graph, members, |p, q| q < p);
-    let (first, cost) = first_assignment(settings, &earlier);
+    let fixed: Vec<u8> = members.iter().map(|&v| graph.fixed[v]).collect();
+    let (first, cost) = first_assignment(settings, &earlier, &fixed);
     match form {
-        Form::Lists => search_lists(settings, &earlier, first, cost, left),
+        Form::Lists => search_lists(settings, &earlier, &fixed, first, cost, left),
         Form::Push => {
             let later = Neighbours::new(graph, members, |p, q| p < q);
-            search_push(settings, &earlier, &later, first, cost, left)
+            search_push(settings, &earlier, &later, &fixed, first, cost, left)
         }
     }
 }
@@ -581,6 +653,7 @@ fn made_layer(seed: u32, count: usize) -> Vec<Piece> {
                 y1,
                 x2: x1 + 20,
                 y2: y1 + 20,
+                fixed: NOT_FIXED,
             }
         })
         .collect()
@@ -602,7 +675,7 @@ fn read_layer(text: &str) -> Option<(Settings, Vec<Piece>)> {
         weight: setting()?,
         budget: setting()?.into(),
     };
-    setting()?;
+    let count = setting()? as usize;
     let piece = |numbers: Option<Vec<u32>>| match numbers?[..] {
         [shape, x1, y1, x2, y2] => Some(Piece {
             shape,
@@ -610,10 +683,21 @@ fn read_layer(text: &str) -> Option<(Settings, Vec<Piece>)> {
             y1: y1.into(),
             x2: x2.into(),
             y2: y2.into(),
+            fixed: NOT_FIXED,
         }),
         _ => None,
     };
-    let pieces = lines.map(piece).collect::<Option<Vec<Piece>>>()?;
+    let mut pieces = lines
+        .by_ref()
+        .take(count)
+        .map(piece)
+        .collect::<Option<Vec<Piece>>>()?;
+    for numbers in lines {
+        match numbers?[..] {
+            [piece, mask] => pieces.get_mut(piece as usize)?.fixed = mask as u8,
+            _ => return None,
+        }
+    }
     Some((settings, pieces))
 }
 

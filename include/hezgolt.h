@@ -31,7 +31,8 @@ extern "C" {
  * In:
  *
  *   layer, layer_size    The layer text: lines of ASCII with byte 10 at their ends, the last one's too. It needs no zero
- *                        byte after it, and must have none inside.
+ *                        byte after it, and must have none inside. There are six lines with settings, the pieces' (up to
+ *                        512) and, for pieces whose masks are fixed, `fixed=PIECE,MASK` lines (up to one for each piece).
  *   result, result_size  A buffer for the result text, of HEZGOLT_RESULT_LEAST bytes or more.
  *
  * Out, where the layer was decomposed: the length of the result text, from 51 (five lines, for a layer without pieces) to
@@ -39,7 +40,7 @@ extern "C" {
  *
  * Out, where the call was refused: 10,000 x NUMBER + PLACE, and the whole buffer is left as it was. If r is what was
  * returned, NUMBER is r / HEZGOLT_REFUSED and PLACE is r % HEZGOLT_REFUSED. The questions are asked in this order, those of
- * 3 to 5 for one line after the other, and the first that is answered with no decides:
+ * 3, 4, 5 and 13 for one line after the other, and the first that is answered with no decides:
  *
  *   NUMBER  question                                                        PLACE
  *   1       Has the buffer at least 4,096 bytes?                            0
@@ -47,9 +48,14 @@ extern "C" {
  *   3       Is the line the one expected, and in its form?                  the line, from 1
  *   4       Is each number of the line in its range?                        the line, from 1
  *   5       Has the line's piece an area, X1 < X2 and Y1 < Y2?              the line, from 1
+ *   13      `fixed`: is the piece below `pieces`, the mask below `masks`?   the line, from 1
  *   6       Is every piece clear of the earlier ones of its shape?          the first piece that is not, from 0
+ *   14      Have tied pieces no two different fixed masks?                  the first piece that differs from an earlier
+ *                                                                           one, from 0
  *
- * For 3, a line that is missing, a last line without byte 10 and bytes after the last line each count as the next line.
+ * For 3, a line that is missing, a last line without byte 10 and bytes after the last line each count as the next line. After
+ * the pieces only `fixed` lines are expected, each with a higher piece than the one before; a lower one, or the same again, is
+ * 3. Of these lines 13 is asked in place of 4. For 14, pieces are tied directly or through others.
  *
  * What the caller sees to:
  *
@@ -72,7 +78,7 @@ uint64_t hezgolt_decompose(const uint8_t *layer, uint64_t layer_size, uint8_t *r
 /*
  * The same for a layer that comes as a GDSII stream. In:
  *
- *   settings, settings_size  The settings: a layer text of six lines, the last of which is `pieces=0`.
+ *   settings, settings_size  The settings: a layer text of six lines, the last of which is `pieces=0`. No mask is fixed.
  *   stream, stream_size      The stream, with these records and no others: HEADER, BGNLIB, LIBNAME, UNITS, BGNSTR, STRNAME,
  *                            seven for each piece (BOUNDARY, LAYER, DATATYPE, XY, PROPATTR, PROPVALUE, ENDEL), ENDSTR, ENDLIB.
  *                            XY is the piece's rectangle in nm, and property 1 the number of its shape. Zero bytes may
@@ -100,7 +106,8 @@ uint64_t hezgolt_decompose(const uint8_t *layer, uint64_t layer_size, uint8_t *r
  *
  * For 9, a record that is missing or not there to its end has the number that it would have, and bytes other than zero after
  * ENDLIB count as the next record. A rectangle that has no area, or points that do not come back to the first, are 10; another
- * number of points is 9. A negative coordinate is out of range. There is no refusal 5.
+ * number of points is 9. A negative coordinate is out of range. There is no refusal 5, 13 or 14: a `fixed` line in the
+ * settings text is 3, like any other line after the sixth.
  *
  * What is said above of pointers, stack, time and threads holds for this function too, with three areas in place of two.
  */

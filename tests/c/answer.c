@@ -23,6 +23,17 @@ size_t lines(const uint8_t *text, size_t size)
     return count;
 }
 
+/* How many lines begin with the key. */
+size_t lines_with(const char *key, const uint8_t *text, size_t size)
+{
+    size_t length = strlen(key);
+    size_t count = 0;
+
+    for (size_t i = 0; i + length <= size; i++)
+        count += (i == 0 || text[i - 1] == '\n') && memcmp(text + i, key, length) == 0;
+    return count;
+}
+
 /* As many as are there in full, as far as their lengths lead. */
 size_t records(const uint8_t *stream, size_t size)
 {
@@ -39,11 +50,11 @@ size_t records(const uint8_t *stream, size_t size)
     return count;
 }
 
-/* Five lines and the masks of all pieces; a layer text has six and the pieces. */
+/* Five lines and the masks of all pieces. */
 static size_t result_lines(const struct layer *layer)
 {
     if (layer->settings == NULL)
-        return lines(layer->bytes, layer->size) - 1;
+        return 5 + lines_with("piece=", layer->bytes, layer->size);
     return 5 + (records(layer->bytes, layer->size) - AROUND) / IN_ELEMENT;
 }
 
@@ -61,10 +72,25 @@ static void see_length(const struct layer *layer, uint64_t length, const uint8_t
 static int is_text_refusal(const struct layer *layer, uint64_t number, uint64_t place)
 {
     size_t there = lines(layer->bytes, layer->size);
+    size_t pieces = lines_with("piece=", layer->bytes, layer->size);
+    size_t fixed = lines_with("fixed=", layer->bytes, layer->size);
 
-    if (number == 6)
-        return place >= 1 && place + SETTINGS_LINES < there;
-    return number >= 3 && number <= 5 && place >= 1 && place <= there + 1;
+    switch (number) {
+    case 3:
+        return place >= 1 && place <= there + 1;
+    case 4:
+        return place >= 1 && place <= SETTINGS_LINES + pieces;
+    case 5:
+        return place > SETTINGS_LINES && place <= SETTINGS_LINES + pieces;
+    case 6:
+        return place >= 1 && place < pieces;
+    case 13:
+        return fixed >= 1 && place > SETTINGS_LINES && place <= there;
+    case 14:
+        return fixed >= 2 && place >= 1 && place < pieces;
+    default:
+        return 0;
+    }
 }
 
 /* The same of a stream. For 4, the place is a line of the settings text, a piece or nothing. */

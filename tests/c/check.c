@@ -111,7 +111,19 @@ static void check_bytes(void)
     free(text);
 }
 
-/* As long as a text may be, and by one byte longer: bytes after the example, and a number of very many digits. */
+/* A fixed line of very many digits after the example: `comma` says where its comma is. Any length is good form. */
+static void see_long_fixed(enum kind kind, const struct layer *example, uint8_t *text, size_t comma)
+{
+    memset(text, '7', HEZGOLT_LAYER_MOST);
+    memcpy(text, example->bytes, example->size);
+    memcpy(text + example->size, "fixed=", 6);
+    text[comma - 1] = '0';
+    text[comma] = ',';
+    text[HEZGOLT_LAYER_MOST - 1] = '\n';
+    see_text_refused(kind, text, HEZGOLT_LAYER_MOST, 130000 + lines(example->bytes, example->size) + 1);
+}
+
+/* As long as a text may be, and by one byte longer: bytes after the example, and numbers of very many digits. */
 static void check_limits(const struct layer *example)
 {
     static const uint8_t after[] = {'\n', 0, 'p'};
@@ -130,6 +142,8 @@ static void check_limits(const struct layer *example)
         text[HEZGOLT_LAYER_MOST - 1] = '\n';
         see_text_refused(kind, text, HEZGOLT_LAYER_MOST, 40001);
         see_text_refused(kind, text, HEZGOLT_LAYER_MOST + 1, 20000);
+        see_long_fixed(kind, example, text, example->size + 7);
+        see_long_fixed(kind, example, text, HEZGOLT_LAYER_MOST - 3);
     }
     free(text);
 }
@@ -166,17 +180,45 @@ static void check_random(const struct layer *example, int few)
     free(text);
 }
 
-/* The front of a text that is in order ends before a line that is missing, or in one without its end. `most` are tried. */
+/* Whether the answer comes after all lines were found in order. */
+static int is_of_whole_layer(uint64_t answer)
+{
+    uint64_t number = answer / HEZGOLT_REFUSED;
+
+    return number == 0 || number == 6 || number == 14;
+}
+
+/*
+ * The front of a text that is in order ends before a line that is missing, or in one without its end. Where it has all pieces
+ * and ends behind a line, only `fixed` lines are missing, and it is in order too.
+ */
+static void see_front(const struct layer *layer, size_t size)
+{
+    uint8_t result[HEZGOLT_RESULT_LEAST];
+    enum kind kind = (enum kind)(size % KINDS);
+    struct layer front = *layer;
+    size_t there = lines(layer->bytes, size);
+    size_t needed = lines(layer->bytes, layer->size) - lines_with("fixed=", layer->bytes, layer->size);
+    uint64_t answer;
+
+    front.size = size;
+    if (there < needed || layer->bytes[size - 1] != '\n') {
+        see_refused(kind, &front, 30000 + there + 1);
+        return;
+    }
+    answer = call(kind, &front, result, sizeof result);
+    if (!is_of_whole_layer(answer))
+        fail("%s: answer %lu for the first %lu lines", layer->name, (unsigned long)answer, (unsigned long)there);
+}
+
+/* `most` fronts of each layer are tried. */
 static void check_prefixes(const struct layer *layers, size_t count, size_t most)
 {
     begin("prefixes");
-    for (size_t i = 0; i < count; i++) {
-        const struct layer *layer = &layers[i];
-        if (layer->answer >= HEZGOLT_REFUSED && layer->answer / HEZGOLT_REFUSED != 6)
-            continue;
-        for (size_t size = 0; size < layer->size; size += 1 + (layer->size - 1) / most)
-            see_text_refused((enum kind)(size % KINDS), layer->bytes, size, 30000 + lines(layer->bytes, size) + 1);
-    }
+    for (size_t i = 0; i < count; i++)
+        if (is_of_whole_layer(layers[i].answer))
+            for (size_t size = 0; size < layers[i].size; size += 1 + (layers[i].size - 1) / most)
+                see_front(&layers[i], size);
 }
 
 int is_digit(uint8_t byte)
@@ -195,7 +237,7 @@ static void see_change(const struct layer *example, size_t place, uint8_t value,
     int digits = is_digit(example->bytes[place]);
 
     if (digits && is_digit(value)
-            ? answer >= HEZGOLT_REFUSED && answer / HEZGOLT_REFUSED != 6 && answer % HEZGOLT_REFUSED < line
+            ? !is_of_whole_layer(answer) && answer % HEZGOLT_REFUSED < line
             : answer != spoilt && !(digits && value == '\n' && answer == spoilt + 1))
         fail("byte %lu as %u: answer %lu", (unsigned long)place, (unsigned)value, (unsigned long)answer);
 }
@@ -239,11 +281,23 @@ static struct layer example_layer(void)
                     "verdict=best\nconflicts=1\nstitches=0\ncost=10\nsteps=5\nmask=0\nmask=1\nmask=0\n");
 }
 
+/* Two tied pieces that are fixed, and one that has to keep away from them. */
+static struct layer fixed_example(void)
+{
+    return layer_of("fixed example",
+                    "masks=2\nspacing=80\nmargin=10\nweight=10\nbudget=100\npieces=3\n"
+                    "piece=0,0,0,20,9\npiece=0,20,0,40,20\npiece=1,60,0,80,20\nfixed=0,1\nfixed=1,1\n",
+                    "verdict=best\nconflicts=0\nstitches=0\ncost=0\nsteps=1\nmask=1\nmask=1\nmask=0\n");
+}
+
 /* All of the first function but threads. */
 static void check_layers(const struct layer *example, const struct layer *layers, size_t count, int few)
 {
+    struct layer fixed = fixed_example();
+
     begin("stored");
     check_stored(example, 1);
+    check_stored(&fixed, 1);
     check_stored(layers, count);
     begin("rooms");
     check_rooms(layers, count);
@@ -251,8 +305,11 @@ static void check_layers(const struct layer *example, const struct layer *layers
     check_limits(example);
     check_random(example, few);
     check_prefixes(example, 1, example->size);
+    check_prefixes(&fixed, 1, fixed.size);
     check_prefixes(layers, count, few ? 10 : 2000);
     check_changes(example, few);
+    check_changes(&fixed, few);
+    free_layers(&fixed, 1);
 }
 
 /* The stored streams, and one of each stored layer that has one. */

@@ -50,6 +50,7 @@ unsigned long calls(void);
 
 /* answer.c */
 size_t lines(const uint8_t *text, size_t size);
+size_t lines_with(const char *key, const uint8_t *text, size_t size);
 size_t records(const uint8_t *stream, size_t size);
 void see_possible(const struct layer *layer, uint64_t answer, const uint8_t *result, size_t room);
 
@@ -59,6 +60,7 @@ struct layer layer_of(const char *name, const char *text, const char *result);
 struct layer ring_layer(unsigned masks);
 struct layer clique_layer(unsigned masks, unsigned budget);
 struct layer chains_layer(void);
+struct layer fixed_layer(unsigned masks);
 void free_layers(struct layer *layers, size_t count);
 
 /* streams.c */

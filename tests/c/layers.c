@@ -233,3 +233,29 @@ struct layer chains_layer(void)
     }
     return layer_of("three chains", text, result);
 }
+
+/*
+ * 512 squares that are all in conflict with each other and have fixed masks, in turn. Nothing is left to choose, so that the
+ * search goes down to the last piece, which brings the cost to that of the first assignment, in one step for each piece. The
+ * budget is just that.
+ */
+struct layer fixed_layer(unsigned masks)
+{
+    static char text[HEZGOLT_LAYER_MOST], result[HEZGOLT_RESULT_LEAST + 1];
+    unsigned share = PIECES / masks;
+    char name[64];
+    char *to = put_settings(text, masks, 1000, PIECES);
+    char *out = put_counts(result, "best", masks * (share * (share - 1) / 2), 0, PIECES);
+
+    for (unsigned i = 0; i < PIECES; i++) {
+        struct piece piece = {i, i, 0, i + 20, 20};
+        to = put_piece(to, piece);
+    }
+    for (unsigned i = 0; i < PIECES; i++) {
+        unsigned mask = masks - 1 - i % masks;
+        to += sprintf(to, "fixed=%u,%u\n", i, mask);
+        out += sprintf(out, "mask=%u\n", mask);
+    }
+    snprintf(name, sizeof name, "fixed clique, %u masks", masks);
+    return layer_of(name, text, result);
+}

@@ -9,10 +9,11 @@
 static const uint8_t UNITS[16] = {0x3E, 0x41, 0x89, 0x37, 0x4B, 0xC6, 0xA7, 0xF0,
                                   0x39, 0x44, 0xB8, 0x2F, 0xA0, 0x9B, 0x5A, 0x54};
 
-/* Only a layer text in order: one that is decomposed, or refused for an overlap. */
+/* Only a layer text in order, one that is decomposed, or refused for an overlap; and not with fixed masks. */
 int has_stream(const struct layer *layer)
 {
-    return layer->answer < HEZGOLT_REFUSED || layer->answer / HEZGOLT_REFUSED == 6;
+    return (layer->answer < HEZGOLT_REFUSED || layer->answer / HEZGOLT_REFUSED == 6)
+           && lines_with("fixed=", layer->bytes, layer->size) == 0;
 }
 
 static uint8_t *put_record(uint8_t *to, unsigned type, unsigned data_type, const void *data, size_t size)

@@ -10,6 +10,10 @@
 
 #define THREADS 8
 
+/* How many large layers there are, and how many of them, the first, have streams. */
+#define LARGE 7
+#define LARGE_STREAMS 6
+
 struct task {
     const struct layer *layers;
     size_t count;
@@ -49,11 +53,11 @@ static pthread_t start(struct task *task)
     return thread;
 }
 
-/* Layers of 512 pieces that are searched to the last one, or tied, as texts or as streams. */
+/* Layers of 512 pieces that are searched to the last one, or tied, or fixed, as texts or as streams. */
 void check_stack(int few, int streams)
 {
-    struct layer layers[12];
-    struct task task = {streams ? layers + 6 : layers, 6, 0, GUARDED, 0, NULL};
+    struct layer layers[LARGE + LARGE_STREAMS];
+    struct task task = {streams ? layers + LARGE : layers, streams ? LARGE_STREAMS : LARGE, 0, GUARDED, 0, NULL};
     unsigned budget = few ? 2000 : 200000;
 
     layers[0] = ring_layer(2);
@@ -62,13 +66,14 @@ void check_stack(int few, int streams)
     layers[3] = clique_layer(8, budget);
     layers[4] = clique_layer(4, 0);
     layers[5] = chains_layer();
-    for (size_t i = 0; i < 6; i++)
-        layers[6 + i] = stream_of(&layers[i]);
+    layers[6] = fixed_layer(8);
+    for (size_t i = 0; i < LARGE_STREAMS; i++)
+        layers[LARGE + i] = stream_of(&layers[i]);
     for (int kind = 0; kind < KINDS; kind++) {
         task.kind = (enum kind)kind;
         pthread_join(start(&task), NULL);
     }
-    free_layers(layers, 12);
+    free_layers(layers, LARGE + LARGE_STREAMS);
 }
 
 /* All threads at once over the same layers. In the second round each begins with another one. */

@@ -43,7 +43,7 @@ static uint64_t pass_on(struct call call)
 #define MOST (SECOND ? HEZGOLT_STREAM_MOST : HEZGOLT_LAYER_MOST)
 
 #if defined STACK
-/* With the 458 KiB of the call, this is more than a thread is told to have. */
+/* With what the call takes, this is more than a thread is told to have. */
 static uint64_t deeper(struct call call)
 {
     volatile uint8_t deep[800 * 1024];
@@ -127,6 +127,18 @@ static uint64_t untied(struct call call)
 #define pass_on untied
 #endif
 
+#if defined NOT_FIXED
+/* The call gets the layer text without its fixed lines. */
+static uint64_t not_fixed(struct call call)
+{
+    for (uint64_t i = 0; i + 7 <= call.size && call.size <= MOST; i++)
+        if (memcmp(call.bytes + i, "\nfixed=", 7) == 0)
+            call.size = i + 1;
+    return pass_on(call);
+}
+#define pass_on not_fixed
+#endif
+
 /* What is done before the call. A call that it answers is not passed on. */
 static int before(struct call *call, uint64_t *answer)
 {
@@ -194,6 +206,18 @@ static uint64_t after(struct call call, uint64_t answer)
 #elif defined MISSING_LINE /* The last line there is, for a line that is missing. */
     if (answer == 3 * HEZGOLT_REFUSED + 2 && call.size == 8)
         answer--;
+#elif defined FIXED_RANGE /* 4 where 13 is due. */
+    if (answer / HEZGOLT_REFUSED == 13)
+        answer -= 9 * HEZGOLT_REFUSED;
+#elif defined FIXED_LONG /* A fixed line of very many digits has bad form. */
+    if (answer / HEZGOLT_REFUSED == 13 && call.size > 1000)
+        answer -= 10 * HEZGOLT_REFUSED;
+#elif defined FIXED_PIECE /* The line, from 1, where the piece, from 0, is due. */
+    if (answer / HEZGOLT_REFUSED == 14)
+        answer += 7;
+#elif defined FIXED_NOTHING /* No place where a piece is due. */
+    if (answer / HEZGOLT_REFUSED == 14)
+        answer = 14 * HEZGOLT_REFUSED;
 #elif defined MISSING_RECORD /* The last record there is, for a record that is missing. */
     if (answer == 9 * HEZGOLT_REFUSED + 2 && call.size == 6)
         answer--;

@@ -3,7 +3,8 @@
     klayout -b -r tools/klayout/from_layer.py -rd layer=LAYER -rd settings=SETTINGS -rd out=STREAM
 
 Every piece becomes a box with user property 1, its shape number. `./decompose SETTINGS STREAM` then prints what
-`./decompose < LAYER` prints. tools/klayout/check shows it.
+`./decompose < LAYER` prints. tools/klayout/check shows it. A layer text with fixed masks is refused, because a stream has
+no place for them: without them other masks would be printed.
 
 KLayout 0.28.5 from Debian's package `klayout` was used. `-b` runs it without a window.
 """
@@ -14,7 +15,7 @@ import pya
 
 sys.dont_write_bytecode = True
 sys.path.insert(0, str(pathlib.Path(__file__).resolve().parents[1]))
-from plotting.layer import Layer, read_layer, write_layer
+from plotting.layer import BadInput, Layer, read_layer, write_layer
 
 # KLayout sorts the boxes of a layer by where they lie when there are more than 100. A piece has its number from its place
 # in the stream, so every 100 pieces get a datatype of their own, which keeps their order.
@@ -49,8 +50,10 @@ def save_options():
 
 def main(layer_file, settings_file, stream_file):
     read = read_layer(layer_file, pathlib.Path(layer_file).read_bytes())
+    if read.fixed:
+        raise BadInput(f"{layer_file}: a stream cannot have fixed masks; to go without them, take the fixed= lines out")
     drawn(read.pieces).write(stream_file, save_options())
-    pathlib.Path(settings_file).write_bytes(write_layer(Layer(read.settings, [])))
+    pathlib.Path(settings_file).write_bytes(write_layer(Layer(read.settings, [], {})))
 
 
 # KLayout defines these three names from its -rd arguments. An exception ends it with status 1.

@@ -7,7 +7,8 @@ from collections import namedtuple
 
 Settings = namedtuple("Settings", "masks spacing margin weight budget")
 Piece = namedtuple("Piece", "shape x1 y1 x2 y2")
-Layer = namedtuple("Layer", "settings pieces")
+# `fixed` has the mask of each piece that has a fixed one.
+Layer = namedtuple("Layer", "settings pieces fixed")
 Result = namedtuple("Result", "verdict conflicts stitches cost steps masks")
 # Pairs of piece numbers: conflict edges with one mask at both ends, stitch edges with two, and all ties.
 Edges = namedtuple("Edges", "conflicts stitches ties")
@@ -34,6 +35,12 @@ class BadInput(Exception):
     """Why there is nothing to draw, in one line."""
 
 
+def within(word, limits):
+    """Whether a number of any length is within its limits."""
+    least, most = limits
+    return len(word) <= len(str(most)) and least <= int(word) <= most
+
+
 class Lines:
     """The lines of a text, taken one after the other. `refusal` tells the number that a bad line has in RULES 11."""
 
@@ -52,26 +59,53 @@ class Lines:
             raise self.bad(3, f"{form} is expected, and no whole line is there")
         return self.lines[self.taken - 1]
 
-    def numbers(self, key, limits):
-        """The numbers of the next line, one for each pair of limits."""
-        form = f"{key}=" + ",".join(["NUMBER"] * len(limits))
+    def words(self, key, count, form):
+        """The digits of so many numbers that the next line has."""
         line = self.take(form)
         start = f"{key}=".encode()
         words = line[len(start):].split(b",")
-        if not line.startswith(start) or len(words) != len(limits) or not all(map(NUMBER.fullmatch, words)):
+        if not line.startswith(start) or len(words) != count or not all(map(NUMBER.fullmatch, words)):
             raise self.bad(3, f"{form} is expected")
-        for word, (least, most) in zip(words, limits):
-            if len(word) > len(str(most)) or not least <= int(word) <= most:
-                raise self.bad(4, f"each number of {key}= must be within its range")
+        return words
+
+    def numbers(self, key, limits):
+        """The numbers of the next line, one for each pair of limits."""
+        words = self.words(key, len(limits), f"{key}=" + ",".join(["NUMBER"] * len(limits)))
+        if not all(map(within, words, limits)):
+            raise self.bad(4, f"each number of {key}= must be within its range")
         return [int(word) for word in words]
 
     def left(self):
         return len(self.lines) - self.taken
 
+    def goes_on(self):
+        return bool(self.left() or self.unended)
+
     def end(self):
-        if self.left() or self.unended:
+        if self.goes_on():
             self.taken += 1
             raise self.bad(3, "the text goes on after its last line")
+
+
+def read_fixed(lines, masks, count):
+    """The fixed masks by their pieces, from all lines that are left."""
+    fixed, last = {}, -1
+    while lines.goes_on():
+        words = lines.words("fixed", 2, "fixed=PIECE,MASK or the end of the text")
+        if within(words[0], (0, last)):
+            raise lines.bad(3, "the piece of fixed= must be above the last one")
+        if not within(words[0], (0, count - 1)) or not within(words[1], (0, masks - 1)):
+            raise lines.bad(13, "fixed= must have one of the pieces and one of the masks")
+        last, mask = map(int, words)
+        fixed[last] = mask
+    return fixed
+
+
+def first_differing(layer):
+    """The first piece whose fixed mask is not that of an earlier one in its unit, or None."""
+    unit_of = units(len(layer.pieces), tied_pairs(layer)) if layer.fixed else []
+    of_unit = {}
+    return next((number for number, mask in layer.fixed.items() if of_unit.setdefault(unit_of[number], mask) != mask), None)
 
 
 def read_layer(name, data):
@@ -86,17 +120,21 @@ def read_layer(name, data):
         if piece.x1 >= piece.x2 or piece.y1 >= piece.y2:
             raise lines.bad(5, "a piece must have X1 < X2 and Y1 < Y2")
         pieces.append(piece)
-    lines.end()
+    layer = Layer(Settings(*values), pieces, read_fixed(lines, values[0], count))
     for number, piece in enumerate(pieces):
         if any(piece.shape == other.shape and min(overlaps(piece, other)) > 0 for other in pieces[:number]):
             raise BadInput(f"{name}, piece {number}: it overlaps a piece of its own shape{REFUSAL.format(6)}")
-    return Layer(Settings(*values), pieces)
+    number = first_differing(layer)
+    if number is not None:
+        raise BadInput(f"{name}, piece {number}: an earlier one of its unit has another fixed mask{REFUSAL.format(14)}")
+    return layer
 
 
 def write_layer(layer):
     """The text that states the layer (RULES 9)."""
     lines = [f"{key}={value}" for key, value in layer.settings._asdict().items()] + [f"pieces={len(layer.pieces)}"]
     lines += ["piece=" + ",".join(map(str, piece)) for piece in layer.pieces]
+    lines += [f"fixed={number},{mask}" for number, mask in sorted(layer.fixed.items())]
     return "".join(line + "\n" for line in lines).encode()
 
 
@@ -144,13 +182,22 @@ def pairs(pieces):
     return [(i, j) for j in range(len(pieces)) for i in range(j)]
 
 
+def is_tie(a, b, margin):
+    return 0 < contact(a, b) < margin
+
+
+def tied_pairs(layer):
+    pieces = layer.pieces
+    return [(i, j) for i, j in pairs(pieces) if is_tie(pieces[i], pieces[j], layer.settings.margin)]
+
+
 def counted_edges(layer, masks):
     """The edges that the score counts (RULES 3), and the ties (RULES 2)."""
     spacing, margin = layer.settings.spacing, layer.settings.margin
     edges = Edges([], [], [])
     for i, j in pairs(layer.pieces):
         a, b = layer.pieces[i], layer.pieces[j]
-        if 0 < contact(a, b) < margin:
+        if is_tie(a, b, margin):
             edges.ties.append((i, j))
         elif masks[i] == masks[j] and conflict_edge(a, b, spacing):
             edges.conflicts.append((i, j))
@@ -181,6 +228,8 @@ def judge(layer, result):
     for number, mask in enumerate(result.masks):
         if mask >= settings.masks:
             raise BadInput(f"piece {number} is on mask {mask}, but the layer has masks 0 to {settings.masks - 1}")
+        if layer.fixed.get(number, mask) != mask:
+            raise BadInput(f"piece {number} is on mask {mask}, but its fixed mask is {layer.fixed[number]}")
     edges = counted_edges(layer, result.masks)
     for i, j in edges.ties:
         if result.masks[i] != result.masks[j]:

@@ -2,17 +2,13 @@
 from collections import Counter
 
 from plotting.geometry import PAGE_LEFT, round_length
-from plotting.marks import INK, TIE, add, add_conflict, add_seams, add_stitch, add_tie, path
+from plotting.marks import FRAME, INK, TIE, add, add_conflict, add_frame, add_seams, add_stitch, add_tie, path
 
 ROW = 22
 # The least length of the scale bar, and the length of the words above the spacing's.
 LENGTH, SPACING_WORDS = 100, 150
 PANEL_WIDTHS = (150, 310, 310, 230)
-VERDICTS = {
-    "best": ("#1b6e3c", "No other assignment of these pieces costs less."),
-    "open": ("#8a5a00", "The budget ended the search; a cheaper assignment may exist."),
-}
-BEST_OF_TIED = "No other assignment that keeps the ties costs less."
+COLOURS = {"best": "#1b6e3c", "open": "#8a5a00"}
 
 
 def counted(number, noun):
@@ -24,17 +20,24 @@ def heading(layer):
     return f"{counted(len(layer.pieces), 'piece')} on {counted(layer.settings.masks, 'mask')}"
 
 
-def summary(result, tied):
-    means = BEST_OF_TIED if tied and result.verdict == "best" else VERDICTS[result.verdict][1]
+def meaning(layer, verdict, tied):
+    """What the verdict says of other assignments. Those that break a tie or have another mask than a fixed one do not count."""
+    if verdict == "open":
+        return "The budget ended the search; a cheaper assignment may exist."
+    kept = " and ".join(["ties"] * tied + ["fixed masks"] * bool(layer.fixed))
+    return f"No other assignment {f'that keeps the {kept}' if kept else 'of these pieces'} costs less."
+
+
+def summary(layer, result, tied):
     return (f"{counted(result.conflicts, 'conflict')} left, {counted(result.stitches, 'stitch')} used, "
-            f"cost {result.cost:,}, {counted(result.steps, 'step')}. {means}")
+            f"cost {result.cost:,}, {counted(result.steps, 'step')}. {meaning(layer, result.verdict, tied)}")
 
 
 def add_heading(parent, layer, result, tied):
-    add(parent, "rect", x=PAGE_LEFT, y=22, width=64, height=26, rx=4, fill=VERDICTS[result.verdict][0])
+    add(parent, "rect", x=PAGE_LEFT, y=22, width=64, height=26, rx=4, fill=COLOURS[result.verdict])
     add(parent, "text", result.verdict.upper(), kind="verdict", x=PAGE_LEFT + 32, y=40)
     add(parent, "text", heading(layer), kind="title", x=PAGE_LEFT + 78, y=42)
-    add(parent, "text", summary(result, tied), x=PAGE_LEFT, y=70)
+    add(parent, "text", summary(layer, result, tied), x=PAGE_LEFT, y=70)
 
 
 def add_length(parent, x, y, length, words, goes_on=False):
@@ -78,7 +81,7 @@ def add_masks(parent, count, masks):
 def add_marks(parent, mark, notes):
     """A sample of each mark, and notes on pieces that are not drawn as they lie."""
     add(parent, "text", "Marks", kind="head")
-    middle = [row * ROW - 4.5 for row in range(6)]
+    middle = [row * ROW - 4.5 for row in range(7)]
     add_conflict(parent, (4, middle[1]), (30, middle[1]), mark)
     add_conflict(parent, (17, middle[2]), (17, middle[2]), mark)
     add_stitch(parent, (8, middle[3]), (26, middle[3]), mark)
@@ -88,12 +91,15 @@ def add_marks(parent, mark, notes):
     for x, y in ((0, middle[5] - 9), (17, middle[5] - 2)):
         add(parent, "rect", kind="wire", x=x, y=y, width=17, height=11, fill="#c8c8c8")
     add_tie(parent, (17, middle[5] - 2), (17, middle[5] + 2), TIE * mark)
+    add(parent, "rect", y=middle[6] - 8, width=34, height=16, fill="#c8c8c8")
+    add_frame(parent, 0, middle[6] - 8, 34, 16, FRAME * mark)
     words = (
         "conflict left: one mask, too close",
         "conflict left: one mask, overlapping",
         "stitch used: the wire changes mask",
         "one wire, in two pieces",
         "tie: too little contact, so one mask",
+        "fixed: the designer set this mask",
     )
     for row, text in enumerate(words, 1):
         add(parent, "text", text, x=44, y=row * ROW)
@@ -124,13 +130,18 @@ def result_rows(layer, result):
 
 def setting_rows(layer, units):
     settings, count = layer.settings, len(layer.pieces)
+    pieces = [f"{count:,}"]
+    if units < count:
+        pieces.append(f"in {counted(units, 'unit')}")
+    if layer.fixed:
+        pieces.append(f"{len(layer.fixed):,} fixed")
     return [
         ("masks K", f"{settings.masks}"),
         ("spacing S", f"{settings.spacing:,} nm"),
         ("margin M", f"{settings.margin:,} nm"),
         ("weight W", f"{settings.weight:,}"),
         ("budget B", counted(settings.budget, "step")),
-        ("pieces n", f"{count:,}" + (f", in {counted(units, 'unit')}" if units < count else "")),
+        ("pieces n", ", ".join(pieces)),
     ]
 
 

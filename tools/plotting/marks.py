@@ -1,4 +1,5 @@
-"""Elements of the picture: how they are written, the fills of the masks, and the marks of conflicts, stitches and ties."""
+"""Elements of the picture: how they are written, the fills of the masks, and the marks of conflicts, stitches, ties and fixed
+masks."""
 import math
 import xml.etree.ElementTree as ET
 
@@ -26,6 +27,7 @@ MASK_STYLES = [
 LEAST_CONFLICT, END_DOT, RING = 8, 3, 5.5
 LEAST_STITCH, BEYOND_STITCH = 12, 6
 TIE = 5
+FRAME = 3.2
 
 
 def style(mark):
@@ -51,6 +53,8 @@ path, .halo, .line {{ fill: none }}
 .dot {{ fill: {RED}; stroke: #fff; stroke-width: {mark:.2f} }}
 .bar {{ stroke: #000; stroke-width: {7 * mark:.2f} }}
 .knot {{ fill: {INK}; stroke: #fff; stroke-width: {mark:.2f} }}
+.frame {{ stroke: {INK}; fill: none }}
+.light {{ stroke: #fff; fill: none }}
 .core {{ stroke: #fff; stroke-width: {3.4 * mark:.2f}; stroke-dasharray: {3 * mark:.2f} {2 * mark:.2f} }}
 """
 
@@ -118,6 +122,12 @@ def add_tie(parent, start, end, size):
     """A dark diamond in the middle of the segment where the pieces meet."""
     x, y = (start[0] + end[0]) / 2, (start[1] + end[1]) / 2
     add(parent, "path", kind="knot", d=path((x, y - size), (x + size, y), (x, y + size), (x - size, y), (x, y - size)))
+
+
+def add_frame(parent, x, y, width, height, thick):
+    """A dark frame inside the sides, with a light one inside it, so that it shows on every mask."""
+    for kind, line in (("light", 1.35 * thick), ("frame", thick)):
+        add(parent, "rect", kind=kind, x=x + line / 2, y=y + line / 2, width=width - line, height=height - line, stroke_width=line)
 
 
 def add_seams(parent, lines):

@@ -5,7 +5,7 @@ from collections import Counter, defaultdict
 from plotting.geometry import View, nearest_points, outline, seam
 from plotting.layer import contact, gaps, pairs, units
 from plotting.legend import add_heading, add_legend, add_lengths, counted, heading, summary
-from plotting.marks import TIE, add, add_conflict, add_fills, add_seams, add_stitch, add_tie, path, style
+from plotting.marks import FRAME, TIE, add, add_conflict, add_fills, add_frame, add_seams, add_stitch, add_tie, path, style
 
 # Pieces are drawn at least this large, so that none is lost in a wide layer.
 LEAST_PIECE = 4
@@ -14,6 +14,8 @@ LEAST_PIECE = 4
 INSET, CLEAR, LINES_APART, RINGS_APART = 6, 12, 6, 13
 # The mark of a tie is this part of the shortest side of its pieces, if that is less than its full size.
 TIE_PART = 0.3
+# So is the thickness of the frame of a piece with a fixed mask.
+FRAME_PART = 0.12
 
 
 class Box:
@@ -63,18 +65,29 @@ def drawing_order(pieces):
     return sorted(range(len(pieces)), key=lambda number: (-areas[number], number))
 
 
-def add_pieces(parent, layer, masks, unit_of, boxes):
-    """The pieces. Those that are not alone in their unit name it."""
+def add_fixed(parent, number, mask, box, full):
+    """The frame of a piece with a fixed mask, in front of this piece and behind those that are drawn over it."""
+    group = add(parent, "g", kind="fixed")
+    add(group, "title", f"fixed: piece {number} on mask {mask}")
+    thick = min(full, FRAME_PART * min(box.width, box.height))
+    add_frame(group, box.x - box.width / 2, box.y - box.height / 2, box.width, box.height, thick)
+
+
+def add_pieces(parent, view, layer, masks, unit_of, boxes):
+    """The pieces. Those that are not alone in their unit name it, and those that have a fixed mask say so."""
     sizes = Counter(unit_of)
     for number in drawing_order(layer.pieces):
         piece, box = layer.pieces[number], boxes[number]
         unit = f", unit {unit_of[number]}" if sizes[unit_of[number]] > 1 else ""
+        fixed = ", fixed" if number in layer.fixed else ""
         kind = "piece" + " nested" * box.nested + " enlarged" * box.enlarged
         rect = add(parent, "rect", kind=kind, id=f"piece-{number}",
                    x=box.x - box.width / 2, y=box.y - box.height / 2, width=box.width, height=box.height,
                    fill=f"url(#mask-{masks[number]})")
-        add(rect, "title", f"piece {number}, shape {piece.shape}{unit}, mask {masks[number]}: "
+        add(rect, "title", f"piece {number}, shape {piece.shape}{unit}, mask {masks[number]}{fixed}: "
             f"X {piece.x1} to {piece.x2}, Y {piece.y1} to {piece.y2} nm")
+        if fixed:
+            add_fixed(parent, number, masks[number], box, FRAME * view.mark)
 
 
 def add_wires(parent, view, layer, boxes):
@@ -162,7 +175,7 @@ def add_drawing(parent, view, layer, result, edges, unit_of):
     """The layer; returns the notes that it needs."""
     add_axes(parent, view)
     boxes = boxes_of(view, layer.pieces)
-    add_pieces(parent, layer, result.masks, unit_of, boxes)
+    add_pieces(parent, view, layer, result.masks, unit_of, boxes)
     add_wires(parent, view, layer, boxes)
     add_ties(parent, view, layer, result.masks, boxes, edges.ties)
     add_stitches(parent, view, layer, result.masks, edges.stitches)
@@ -178,7 +191,7 @@ def picture(layer, result, edges):
     view, unit_of = View(layer), units(len(layer.pieces), edges.ties)
     root = ET.Element("svg", {"xmlns": "http://www.w3.org/2000/svg", "role": "img", "aria-labelledby": "title desc"})
     add(root, "title", f"Decomposition of a layer: {heading(layer)}, {result.verdict}", id="title")
-    add(root, "desc", summary(result, bool(edges.ties)), id="desc")
+    add(root, "desc", summary(layer, result, bool(edges.ties)), id="desc")
     add(root, "style", style(view.mark))
     add_fills(add(root, "defs"), layer.settings.masks)
     add(root, "rect", width="100%", height="100%", fill="#fff")

@@ -47,4 +47,4 @@ def layer_text(settings_path, stream_path):
         found = pieces(stream_path.read_bytes())
     except (struct.error, TypeError, ValueError) as error:
         raise BadInput(f"{stream_path}: it is no stream that was decomposed: {error}") from error
-    return write_layer(Layer(settings, found))
+    return write_layer(Layer(settings, found, {}))

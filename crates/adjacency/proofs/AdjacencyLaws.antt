@@ -27,7 +27,7 @@ use Rattle.rules.proofs.Tests.{and-left, and-right, or-either, same, same-where
 
 -- ---- a pair, by its lesser and its greater number
 
-pair-sorted : (i j a b : ℕ) → i < j → isPair i j a b ≡ (eqb (min a b) i && eqb (max a b) j)
+pair-sorted : (i j a b : ℕ) → i ≤ j → isPair i j a b ≡ (eqb (min a b) i && eqb (max a b) j)
 pair-sorted i j a b l = same _ _ forth back
   where
     sorted : min a b ≡ i → max a b ≡ j → (eqb (min a b) i && eqb (max a b) j) ≡ true
@@ -51,7 +51,7 @@ pair-sorted i j a b l = same _ _ forth back
         go p q (no h) = rw (ne-eqb a i (λ z. omega arith), eq-eqb a j (omega arith), eq-eqb b i (omega arith))
 
 -- one pair more of a row
-row-next : (i j a b : ℕ) → i < j → inRow (i + 1) j a b ≡ (inRow i j a b || isPair i j a b)
+row-next : (i j a b : ℕ) → i ≤ j → inRow (i + 1) j a b ≡ (inRow i j a b || isPair i j a b)
 row-next i j a b l = rw (pair-sorted i j a b l, ltb-next (min a b) i) (and-or-distrib-right (ltb (min a b) i) (eqb (min a b) i) (eqb (max a b) j))
 
 module _ (edge : ℕ → ℕ → Bool) (symmetric : (a b : ℕ) → edge a b ≡ edge b a) where
@@ -67,7 +67,7 @@ module _ (edge : ℕ → ℕ → Bool) (symmetric : (a b : ℕ) → edge a b ≡
   row-none j words = record { bits = λ a b h. rw (le-ltb (min a b) 0 (omega arith), and-false (edge a b)) (sym (or-false (hasEdge words a b))) }
 
   -- i and j are joined where they were found to have an edge
-  pub row-more : (i j : ℕ) (found : Bool) {before words after : List ℕ} → i < j → found ≡ edge i j → RowTo edge i j before words
+  pub row-more : (i j : ℕ) (found : Bool) {before words after : List ℕ} → i ≤ j → found ≡ edge i j → RowTo edge i j before words
       → ((a b : ℕ) → b < 512 → hasEdge after a b ≡ (hasEdge words a b || (found && isPair i j a b)))
       → RowTo edge (i + 1) j before after
   row-more i j found {before} {words} {after} l e row more = record {

@@ -21,7 +21,7 @@ use rules::Edge;
 use rules::Settings;
 
 // Sets every word to 0.
-fn clear(words: &mut [u64; 4096])
+pub fn clear(words: &mut [u64; 4096])
     ensures { λ _. ⌜ now (words .exit) ≡ replicate 4096 0 ⌝ }
 {
     *words = [0u64; 4096];

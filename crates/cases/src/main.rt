@@ -1,5 +1,5 @@
-// Runs the worked cases of RULES 13 and 17 through the calls, and reports of each whether it came out as stated there: those that are stored as
-// texts, and the gaps and contacts.
+// Runs the worked cases of RULES 13, 17 and 18 through the calls, and reports of each whether it came out as stated there: those that are
+// stored as texts, and the gaps and contacts.
 ghost use Prim.Native.Nat.{_<_};
 use files::read_file;
 use libc::STDOUT_FILENO;
@@ -11,7 +11,7 @@ use rules::Refusal;
 use rules::Settings;
 use rules::WriteAnswer;
 
-// ---- how a case came out: a line with its name, and what came instead where it is not what RULES 13 states
+// ---- how a case came out: a line with its name, and what came instead where it is not what is stated
 
 fn write(text: &[u8]) {
     io::write_all(STDOUT_FILENO, text);
@@ -159,6 +159,7 @@ fn joined(name: &[u8], shape: u32, x: u32, y: u32, wanted: &[u8]) {
         y1: 0,
         x2: 20,
         y2: 20,
+        fixed: Piece::UNSET,
     };
     let other = Piece {
         shape: shape,
@@ -166,6 +167,7 @@ fn joined(name: &[u8], shape: u32, x: u32, y: u32, wanted: &[u8]) {
         y1: y,
         x2: 1000,
         y2: 1000,
+        fixed: Piece::UNSET,
     };
     let answer = layout::edge(settings(), square, other);
     match answer {

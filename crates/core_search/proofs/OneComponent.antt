@@ -1,7 +1,7 @@
 -- From the order, the lists and the local search to the search of a component by the rules. Assumes nothing.
 use mathlib.Core.Bool.{cond}
-use mathlib.Core.List.{List, [], _∷_}
-use mathlib.Core.Path.{_≡_, sym, ap, ap₂, _∙_}
+use mathlib.Core.List.{List, [], _∷_, map}
+use mathlib.Core.Path.{_≡_, sym, ap, ap₂, subst⁻¹, _∙_}
 use Prim.Native.Nat.{ℕ, zero, suc, _-_, _*_, _≤_, _<_}
 use native.Mathlib.Omega.{arith}
 use lib.Dec.{eqb}
@@ -9,19 +9,22 @@ use lib.ListN.{length, getD, take, set, length-set, length-take}
 use lib.Seq.{getD-take, getD-set-same, getD-set-other, length-take-le}
 use Rattle.rules.specs.Edges.{Graph}
 use Rattle.rules.specs.Score.{pairCost}
-use Rattle.rules.specs.Search.{State, localGraph, added, candidates}
+use Rattle.rules.specs.Settings.{unset}
+use Rattle.rules.specs.Search.{State, localGraph, localFixed, added, candidatesIn}
 use Rattle.rules.specs.Decomposition.{putMasks}
 use Rattle.rules.proofs.Lists.{place-in, Rising}
 use Rattle.rules.proofs.Sums.{sum-ext}
 use Rattle.adjacency.specs.Members.{membersOf}
-use Rattle.adjacency.specs.UnitGraph.{unitGraph}
+use Rattle.adjacency.specs.UnitGraph.{unitGraph, fixedAt}
 use Rattle.adjacency.proofs.MemberLaws.{in-members, members-rising}
+use Rattle.theory.proofs.Fixed.{local-below}
 use Rattle.theory.proofs.Renaming.{from-feasible}
 use Rattle.theory.proofs.SameCost.{from-alike}
 use Rattle.places.specs.Local.{localAdded}
 use Rattle.places.specs.LaidOut.{LaidOut}
 use Rattle.places.specs.Order.{Ordered}
-use Rattle.search.specs.Branch.{sizeIn, masksIn, weightIn, budgetIn, stateIn}
+use Rattle.search.specs.Branch.{sizeIn, masksIn, weightIn, budgetIn, fixedIn, stateIn}
+use Rattle.search.specs.First.{FixedLow}
 use Rattle.search.specs.Component.{searchLocal, Posed, Searched}
 use Rattle.core_search.specs.Core.{searchOf, Given, OneSearched}
 
@@ -45,8 +48,14 @@ order-rises {component} {order = order} {size = size} o i j h l =
     let rises = rising-places (take size order) (rw (o .order) (members-rising component)) i j h (omega arith) in
     omega (arith, getD-take size order i 0 (omega arith), getD-take size order j 0 l, rises)
 
-module _ {conflictWords stitchWords units component before order starts list numbers result : List ℕ} {n left size : ℕ}
-    (given : Given component numbers left result) (ordered : Ordered component before order size) (laid : LaidOut conflictWords stitchWords units n order size starts list) where
+-- an array has the fixed masks of the places
+pub record PlacesFixed (fixed order : List ℕ) (size : ℕ) (places : List ℕ) : Type 0 where
+  pub masks : take size places ≡ map (fixedAt fixed) (take size order)
+  pub whole : length places ≡ 512
+
+module _ {conflictWords stitchWords units fixed component before order places starts list numbers result : List ℕ} {n left size : ℕ}
+    (given : Given fixed component numbers left result) (ordered : Ordered component before order size) (laid : LaidOut conflictWords stitchWords units n order size starts list)
+    (local : PlacesFixed fixed order size places) where
   abbrev asked : List ℕ
   asked = set numbers 2 size
 
@@ -56,19 +65,30 @@ module _ {conflictWords stitchWords units component before order starts list num
   size-there : sizeIn asked ≡ size
   size-there = getD-set-same numbers 2 size 0 (omega (arith, given .numbered))
 
-  pub posed : Posed starts list asked left
+  vertices : length (membersOf component) ≡ size
+  vertices = ap length (sym (ordered .order)) ∙ length-take-le size order (omega (arith, ordered .few, ordered .whole))
+
+  -- the fixed masks of the places are those of the component's vertices
+  fixed-there : fixedIn places asked ≡ localFixed (fixedAt fixed) (membersOf component)
+  fixed-there =
+      let masks : take (sizeIn asked) places ≡ map (fixedAt fixed) (membersOf component) = ap (λ (n : ℕ). take n places) size-there ∙ local .masks ∙ ap (map (fixedAt fixed)) (ordered .order) in
+      λ j i. getD (masks j) i unset
+
+  below : FixedLow (localFixed (fixedAt fixed) (membersOf component)) size (masksIn numbers)
+  below i h = local-below (membersOf component) (λ u m. let is = in-members component u .0 m in given .fixed-low u (is .0) (is .1)) i (omega (arith, vertices))
+
+  pub posed : Posed starts list places asked left
   posed = record {
     few = omega (arith, size-there, ordered .few);
     some = omega (arith, given .some, other 3 (λ q. omega arith));
     masks = omega (arith, given .masks, other 3 (λ q. omega arith));
     weight = omega (arith, given .weight, other 4 (λ q. omega arith));
     lists = λ k h. laid .lists k (omega (arith, size-there));
+    fixed-whole = local .whole;
+    fixed-low = subst⁻¹ (λ (f : ℕ → ℕ). FixedLow f (sizeIn asked) (masksIn asked)) fixed-there (rw (size-there, other 3 (λ q. omega arith)) below);
     numbered = simp length-set (given .numbered);
     afford = omega (arith, given .afford, other 5 (λ q. omega arith));
   }
-
-  vertices : length (membersOf component) ≡ size
-  vertices = ap length (sym (ordered .order)) ∙ length-take-le size order (omega (arith, ordered .few, ordered .whole))
 
   -- each vertex of the order has a place among the masks
   pub places-there : (i : ℕ) → i < size → getD order i 0 < length result
@@ -83,30 +103,33 @@ module _ {conflictWords stitchWords units component before order starts list num
   same-cost : (p : List ℕ) (m : ℕ) → length p < size → localAdded (weightIn numbers) starts list p m ≡ added (weightIn numbers) (localGraph graph (membersOf component)) p m
   same-cost p m h = laid .adds (weightIn numbers) p m h ∙ added-prefix (weightIn numbers) graph order size p m h ∙ ap (λ (o : List ℕ). added (weightIn numbers) (localGraph graph o) p m) (ordered .order)
 
-  local-search : searchLocal starts list asked left ≡ searchOf graph component numbers left
-  local-search =
-      rw (size-there, other 1 (λ q. omega arith), other 3 (λ q. omega arith), other 4 (λ q. omega arith), other 5 (λ q. omega arith), vertices)
-      (from-alike (localAdded (weightIn numbers) starts list) (added (weightIn numbers) (localGraph graph (membersOf component))) size same-cost (budgetIn numbers)
-      (masksIn numbers) (candidates (masksIn numbers)) (budgetIn numbers - left) (eqb (getD numbers 1 0) 1))
+  abbrev masks-fixed : ℕ → ℕ
+  masks-fixed = localFixed (fixedAt fixed) (membersOf component)
 
-  module _ {incumbent numbers′ : List ℕ} {left′ : ℕ} (found : Searched starts list incumbent asked numbers′ left left′) where
-    searched : stateIn incumbent numbers′ left′ ≡ searchOf graph component numbers left
+  local-search : searchLocal starts list places asked left ≡ searchOf graph (fixedAt fixed) component numbers left
+  local-search =
+      rw (fixed-there, size-there, other 1 (λ q. omega arith), other 3 (λ q. omega arith), other 4 (λ q. omega arith), other 5 (λ q. omega arith), vertices)
+      (from-alike (localAdded (weightIn numbers) starts list) (added (weightIn numbers) (localGraph graph (membersOf component))) size same-cost (budgetIn numbers)
+      (masksIn numbers) masks-fixed (candidatesIn (masksIn numbers) masks-fixed size) (budgetIn numbers - left) (eqb (getD numbers 1 0) 1))
+
+  module _ {incumbent numbers′ : List ℕ} {left′ : ℕ} (found : Searched starts list places incumbent asked numbers′ left left′) where
+    searched : stateIn incumbent numbers′ left′ ≡ searchOf graph (fixedAt fixed) component numbers left
     searched = found .searched ∙ local-search
 
     size-kept : sizeIn numbers′ ≡ size
     size-kept = found .constants 2 (omega arith) ∙ size-there
 
-    held : take size incumbent ≡ searchOf graph component numbers left .incumbent
+    held : take size incumbent ≡ searchOf graph (fixedAt fixed) component numbers left .incumbent
     held = ap (λ (n : ℕ). take n incumbent) (sym size-kept) ∙ ap (λ (s : State). s .incumbent) searched
 
     pub incumbent-long : size ≤ length incumbent
     incumbent-long =
         let some : 0 < masksIn numbers = omega (arith, given .some) in
-        let long = from-feasible (masksIn numbers) (weightIn numbers) (localGraph graph (membersOf component)) (budgetIn numbers) (length (membersOf component)) (budgetIn numbers - left) (eqb (getD numbers 1 0) 1) some .size in
+        let long = from-feasible (masksIn numbers) (weightIn numbers) (localGraph graph (membersOf component)) masks-fixed (budgetIn numbers) (length (membersOf component)) (budgetIn numbers - left) (eqb (getD numbers 1 0) 1) some (λ i h. below i (omega (arith, vertices))) .size in
         omega (arith, ap length held ∙ long, vertices, length-take size incumbent)
 
     pub one-searched : {result′ : List ℕ} → result′ ≡ putMasks (take size order) (take size incumbent) result
-        → OneSearched graph component numbers numbers′ left result result′ left′
+        → OneSearched graph (fixedAt fixed) component numbers numbers′ left result result′ left′
     one-searched e = record {
       steps = ap (λ (b : ℕ). b - left′) (sym (found .constants 5 (omega arith) ∙ other 5 (λ q. omega arith))) ∙ ap (λ (s : State). s .steps) searched;
       stopped = ap (λ (s : State). s .stopped) searched;

@@ -6,7 +6,7 @@
 ghost use mathlib.Core.Path.{_≡_};
 ghost use lib.ListN.{length, set};
 ghost use Rattle.core_search.specs.Core.{Words, Given, OneSearched, CoreSearched};
-ghost use Rattle.adjacency.specs.UnitGraph.{unitGraph};
+ghost use Rattle.adjacency.specs.UnitGraph.{unitGraph, fixedAt};
 ghost use Rattle.units.specs.Merged.{Merged};
 ghost use Rattle.search.specs.Branch.{budgetIn};
 
@@ -18,14 +18,17 @@ fn set_size(numbers: &mut [u64; 6], size: usize)
     all[2] = size as u64;
 }
 
-// Searches one component, and puts its masks down at the units' numbers. Answers how many of the `left` steps are left then.
+// Searches one component, and puts its masks down at the units' numbers. `fixed` has the units' fixed masks. Answers how many of the `left`
+// steps are left then.
 fn search_one(
     conflicts: &[u64; 4096],
     stitches: &[u64; 4096],
     units: &[u16; 512],
     n: usize,
+    fixed: &[u8; 512],
     component: &[u64; 8],
     order: &mut [u16; 512],
+    local: &mut [u8; 512],
     starts: &mut [u32; 1025],
     list: &mut [u16; 131584],
     incumbent: &mut [u8; 512],
@@ -34,21 +37,22 @@ fn search_one(
     result: &mut [u8],
 ) -> u64
     requires { ⌜ Words (now conflicts) (now stitches) (now units) n ⌝ }
-    requires { ⌜ Given (now component) (now numbers) left (now result) ⌝ }
-    requires { ⌜ (length (now order) ≡ 512) × (length (now starts) ≡ 1025) × (length (now list) ≡ 131_584) ⌝ }
-    ensures { λ r. ⌜ OneSearched (unitGraph (now (conflicts .entry)) (now (stitches .entry)) (now (units .entry)) n) (now (component .entry)) (now (numbers .entry)) (now (numbers .exit)) left (now (result .entry)) (now (result .exit)) r ⌝ }
-    ensures { λ _. ⌜ (length (now (order .exit)) ≡ 512) × (length (now (starts .exit)) ≡ 1025) × (length (now (list .exit)) ≡ 131_584) ⌝ }
+    requires { ⌜ Given (now fixed) (now component) (now numbers) left (now result) ⌝ }
+    requires { ⌜ (length (now order) ≡ 512) × (length (now local) ≡ 512) × (length (now starts) ≡ 1025) × (length (now list) ≡ 131_584) ⌝ }
+    ensures { λ r. ⌜ OneSearched (unitGraph (now (conflicts .entry)) (now (stitches .entry)) (now (units .entry)) n) (fixedAt (now (fixed .entry))) (now (component .entry)) (now (numbers .entry)) (now (numbers .exit)) left (now (result .entry)) (now (result .exit)) r ⌝ }
+    ensures { λ _. ⌜ (length (now (order .exit)) ≡ 512) × (length (now (local .exit)) ≡ 512) × (length (now (starts .exit)) ≡ 1025) × (length (now (list .exit)) ≡ 131_584) ⌝ }
 {
     let size = places::list_members(component, order);
+    places::local_fixed(order, size, fixed, local);
     places::lay_out(conflicts, stitches, units, n, order, size, starts, list);
     set_size(numbers, size);
-    let rest = search::search_component(starts, list, incumbent, numbers, left);
+    let rest = search::search_component(starts, list, local, incumbent, numbers, left);
     places::put_masks(order, size, incumbent, result);
     rest
 }
 
 // Searches the components of the core, and puts their masks down at the units' numbers. `near` and `stitched` are the words of units, for conflict and
-// for stitch edges. Answers how many steps of the budget are left.
+// for stitch edges; `fixed` has the units' fixed masks. Answers how many steps of the budget are left.
 pub fn search_core(
     conflicts: &[u64; 4096],
     stitches: &[u64; 4096],
@@ -56,6 +60,7 @@ pub fn search_core(
     stitched: &[u64; 4096],
     units: &[u16; 512],
     n: usize,
+    fixed: &[u8; 512],
     core: &[u64; 8],
     numbers: &mut [u64; 6],
     result: &mut [u8],
@@ -63,10 +68,11 @@ pub fn search_core(
     requires { ⌜ Words (now conflicts) (now stitches) (now units) n ⌝ }
     requires { ⌜ Merged (now conflicts) (now units) n (now near) ⌝ }
     requires { ⌜ Merged (now stitches) (now units) n (now stitched) ⌝ }
-    requires { ⌜ Given (now core) (now numbers) (budgetIn (now numbers)) (now result) ⌝ }
-    ensures { λ r. ⌜ CoreSearched (unitGraph (now (conflicts .entry)) (now (stitches .entry)) (now (units .entry)) n) (now (core .entry)) (now (numbers .entry)) (now (numbers .exit)) (now (result .entry)) (now (result .exit)) r ⌝ }
+    requires { ⌜ Given (now fixed) (now core) (now numbers) (budgetIn (now numbers)) (now result) ⌝ }
+    ensures { λ r. ⌜ CoreSearched (unitGraph (now (conflicts .entry)) (now (stitches .entry)) (now (units .entry)) n) (fixedAt (now (fixed .entry))) (now (core .entry)) (now (numbers .entry)) (now (numbers .exit)) (now (result .entry)) (now (result .exit)) r ⌝ }
 {
     let mut order = [0u16; 512];
+    let mut local = [0u8; 512];
     let mut starts = [0u32; 1025];
     let mut list = [0u16; 131584];
     let mut incumbent = [0u8; 512];
@@ -83,8 +89,10 @@ pub fn search_core(
             stitches,
             units,
             n,
+            fixed,
             &component,
             &mut order,
+            &mut local,
             &mut starts,
             &mut list,
             &mut incumbent,

@@ -1,4 +1,4 @@
-// The run on a judged layer: its units are decomposed, each piece gets its unit's mask, and the masks are scored.
+// The run on a judged layer: its units are decomposed, with the fixed masks of their pieces, each piece gets its unit's mask, and the masks are scored.
 ghost use mathlib.Core.Path.{_≡_};
 ghost use Prim.Native.Nat.{_≤_};
 ghost use lib.ListN.{length};
@@ -7,11 +7,12 @@ ghost use Rattle.rules.specs.Decomposition.{verdictOf, run};
 ghost use Rattle.rules.specs.Demands.{AgainstLarger};
 ghost use Rattle.rules.specs.Questions.{Valid};
 ghost use Rattle.rules.specs.Units.{spread};
-ghost use Rattle.layout.specs.Flat.{piecesOf};
+ghost use Rattle.layout.specs.Flat.{recordsOf};
 ghost use Rattle.adjacency.specs.UnitGraph.{unitAt};
 ghost use Rattle.theory.proofs.Merging.{Grouping};
 use crate::stages::decompose_units;
 use rules::Decomposition;
+use rules::Piece;
 use rules::Settings;
 use rules::Verdict;
 
@@ -43,21 +44,34 @@ fn spread_masks(units: &[u16; 512], masks: &mut [u8])
 pub fn decompose(
     settings: Settings,
     flat: &[u32; 2560],
+    fixed: &[u8; 512],
     n: usize,
     masks: &mut [u8],
 ) -> Decomposition
-    requires { ⌜ Valid settings (piecesOf (now flat) n) ⌝ }
+    requires { ⌜ Valid settings (recordsOf (now flat) (now fixed) n) ⌝ }
     requires { ⌜ length (now masks) ≡ n ⌝ }
-    ensures { λ r. ⌜ runOf r (now (masks .exit)) ≡ run settings (piecesOf (now (flat .entry)) n) ⌝ }
-    ensures { λ r. ⌜ AgainstLarger settings (piecesOf (now (flat .entry)) n) (runOf r (now (masks .exit))) ⌝ }
+    ensures { λ r. ⌜ runOf r (now (masks .exit)) ≡ run settings (recordsOf (now (flat .entry)) (now (fixed .entry)) n) ⌝ }
+    ensures { λ r. ⌜ AgainstLarger settings (recordsOf (now (flat .entry)) (now (fixed .entry)) n) (runOf r (now (masks .exit))) ⌝ }
 {
     let mut conflicts = [0u64; 4096];
     let mut stitches = [0u64; 4096];
     let mut units = [0u16; 512];
     let all = units::layer_units(settings, flat, n, &mut conflicts, &mut stitches, &mut units);
-    let searched = decompose_units(settings, &conflicts, &stitches, &units, n, &all, masks);
+    let mut noted = [Piece::UNSET; 512];
+    let given: &[u8] = fixed;
+    units::note_masks(&units, &given[..n], &mut noted);
+    let searched = decompose_units(
+        settings,
+        &conflicts,
+        &stitches,
+        &units,
+        n,
+        &noted,
+        &all,
+        masks,
+    );
     spread_masks(&units, masks);
-    let score = scoring::score_words(settings.weight, &conflicts, &stitches, n, masks);
+    let score = counting::score_words(settings.weight, &conflicts, &stitches, n, masks);
     Decomposition {
         conflicts: score.conflicts,
         stitches: score.stitches,

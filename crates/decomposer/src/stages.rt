@@ -4,10 +4,10 @@ ghost use mathlib.Core.List.{[], _∷_};
 ghost use mathlib.Core.Path.{_≡_};
 ghost use lib.ListN.{length, replicate};
 ghost use Rattle.rules.specs.Settings.{settingsInRange};
-ghost use Rattle.adjacency.specs.UnitGraph.{unitGraph};
+ghost use Rattle.adjacency.specs.UnitGraph.{unitGraph, fixedAt};
 ghost use Rattle.units.specs.Merged.{Merged};
 ghost use Rattle.core_search.specs.Core.{Words};
-ghost use Rattle.decomposer.specs.Stages.{HasPlaces, SearchedCore, Decomposed};
+ghost use Rattle.decomposer.specs.Stages.{HasPlaces, HasFixed, SearchedCore, Decomposed};
 use rules::Settings;
 
 // What the search tells beside the masks.
@@ -50,6 +50,7 @@ fn search(
     stitched: &[u64; 4096],
     units: &[u16; 512],
     n: usize,
+    fixed: &[u8; 512],
     core: &[u64; 8],
     masks: &mut [u8],
 ) -> Searched
@@ -58,7 +59,8 @@ fn search(
     requires { ⌜ Merged (now conflicts) (now units) n (now near) ⌝ }
     requires { ⌜ Merged (now stitches) (now units) n (now stitched) ⌝ }
     requires { ⌜ HasPlaces (now core) (now masks) ⌝ }
-    ensures { λ r. ⌜ SearchedCore settings (unitGraph (now (conflicts .entry)) (now (stitches .entry)) (now (units .entry)) n) (now (core .entry)) (now (masks .entry)) (now (masks .exit)) r ⌝ }
+    requires { ⌜ HasFixed (settings .masks) (now fixed) (now core) ⌝ }
+    ensures { λ r. ⌜ SearchedCore settings (unitGraph (now (conflicts .entry)) (now (stitches .entry)) (now (units .entry)) n) (fixedAt (now (fixed .entry))) (now (core .entry)) (now (masks .entry)) (now (masks .exit)) r ⌝ }
 {
     let mut numbers = numbers_of(settings);
     let left = core_search::search_core(
@@ -68,6 +70,7 @@ fn search(
         stitched,
         units,
         n,
+        fixed,
         core,
         &mut numbers,
         masks,
@@ -78,20 +81,22 @@ fn search(
     }
 }
 
-// Decomposes the units whose numbers are in `all`, and puts the mask of each down at its number.
+// Decomposes the units whose numbers are in `all`, with the fixed masks of `fixed`, and puts the mask of each down at its number.
 pub fn decompose_units(
     settings: Settings,
     conflicts: &[u64; 4096],
     stitches: &[u64; 4096],
     units: &[u16; 512],
     n: usize,
+    fixed: &[u8; 512],
     all: &[u64; 8],
     masks: &mut [u8],
 ) -> Searched
     requires { ⌜ settingsInRange settings ≡ true ⌝ }
     requires { ⌜ Words (now conflicts) (now stitches) (now units) n ⌝ }
     requires { ⌜ HasPlaces (now all) (now masks) ⌝ }
-    ensures { λ r. ⌜ Decomposed settings (unitGraph (now (conflicts .entry)) (now (stitches .entry)) (now (units .entry)) n) (now (all .entry)) (now (masks .entry)) (now (masks .exit)) r ⌝ }
+    requires { ⌜ HasFixed (settings .masks) (now fixed) (now all) ⌝ }
+    ensures { λ r. ⌜ Decomposed settings (unitGraph (now (conflicts .entry)) (now (stitches .entry)) (now (units .entry)) n) (fixedAt (now (fixed .entry))) (now (all .entry)) (now (masks .entry)) (now (masks .exit)) r ⌝ }
 {
     let mut near = [0u64; 4096];
     let mut stitched = [0u64; 4096];
@@ -105,6 +110,7 @@ pub fn decompose_units(
         k,
         &near,
         &stitched,
+        fixed,
         &mut there,
         &mut vertices,
         &mut neighbours,
@@ -118,6 +124,7 @@ pub fn decompose_units(
         &stitched,
         units,
         n,
+        fixed,
         &there,
         masks,
     );

@@ -38,6 +38,7 @@ fn piece(shape: u32, x1: u32, y1: u32, x2: u32, y2: u32) -> Piece {
         y1: y1,
         x2: x2,
         y2: y2,
+        fixed: Piece::UNSET,
     }
 }
 
@@ -96,12 +97,18 @@ fn made_layer(seed: u32, n: usize) -> [u32; 2560]
     requires { ⌜ n ≤ 512 ⌝ }
 {
     let mut flat = [0u32; 2560];
+    let mut fixed = [Piece::UNSET; 512];
     let mut state = seed;
     let mut i = 0;
     while i < n {
         let x_draw = next(state);
         state = next(x_draw);
-        layout::put(&mut flat, i, made_piece(i as u32, x_draw, state));
+        layout::put(
+            &mut flat,
+            &mut fixed,
+            i,
+            made_piece(i as u32, x_draw, state),
+        );
         i += 1;
     }
     flat
@@ -126,12 +133,13 @@ fn digest(masks: &[u8]) -> u64 {
     sum
 }
 
-// Decomposes n made pieces, of which as many are there as there are masks.
+// Decomposes n made pieces, of which as many are there as there are masks. None has a fixed mask.
 fn show_layer(s: Settings, seed: u32, n: usize, masks: &mut [u8])
     requires { ⌜ length (now masks) ≤ 512 ⌝ }
 {
     let flat = made_layer(seed, masks.len());
-    let answer = decomposer::decompose_flat(s, &flat, n, masks);
+    let fixed = [Piece::UNSET; 512];
+    let answer = decomposer::decompose_flat(s, &flat, &fixed, n, masks);
     write_answer(answer);
     write(b" digest=");
     io::print_decimal(STDOUT_FILENO, digest(masks));

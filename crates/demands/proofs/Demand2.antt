@@ -10,7 +10,7 @@ use Rattle.rules.proofs.Calls.{decompose-counts, score-tested}
 use Rattle.theory.proofs.Assignments.{scored-exactly, whole-counts}
 use Rattle.theory.proofs.HalfDone.{more-score}
 use Rattle.rules.proofs.Edges.{conflict-exactly, stitch-exactly, tie-exactly, conflicts-exactly, stitches-exactly}
-use Rattle.text.proofs.WrittenLayers.{read-states, reads-back}
+use Rattle.text_theory.proofs.WrittenLayers.{read-states, reads-back}
 
 pub demand2 : Demand2
 demand2 = record {

@@ -57,7 +57,7 @@ pub fn is_rectangle(bytes: &[u8]) -> bool
     others_at(bytes, far_x, y, x, far_y)
 }
 
-// The piece between the first point and the third.
+// The piece between the first point and the third. A stream fixes no masks.
 pub fn piece_from(bytes: &[u8], shape: u32) -> Piece
     requires { ⌜ length (now bytes) ≡ 40 ⌝ }
     ensures { λ r. ⌜ r ≡ cornerPiece (now (bytes .entry)) shape ⌝ }
@@ -72,5 +72,6 @@ pub fn piece_from(bytes: &[u8], shape: u32) -> Piece
         y1: lesser(y, far_y),
         x2: greater(x, far_x),
         y2: greater(y, far_y),
+        fixed: Piece::UNSET,
     }
 }

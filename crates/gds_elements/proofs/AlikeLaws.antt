@@ -1,8 +1,8 @@
 -- A piece with its shape up to the cap and its coordinates without their sign is judged as its element. A negative coordinate lies above every range, and so does
--- the cap. Assumes nothing.
+-- the cap. It has no fixed mask. Assumes nothing.
 use mathlib.Core.Bool.{true, false, not}
 use mathlib.Core.List.{List}
-use mathlib.Core.Path.{_≡_, sym, ap, _∙_}
+use mathlib.Core.Path.{_≡_, refl, sym, ap, _∙_}
 use Prim.Native.Nat.{ℕ, _≤_, min}
 use native.Mathlib.Omega.{arith}
 use lib.Dec.{ltb}
@@ -82,4 +82,4 @@ module _ (points digits : List ℕ) where
       (λ above. rw (no-range, above) (sym (ap (judgePiece place) (unsigned above) ∙ rw (sym capped-range ∙ no-range)))))
 
   pub alike : Alike e p
-  alike = record { judged = judged-alike; same = same-piece }
+  alike = record { judged = judged-alike; same = same-piece; free = refl }

@@ -10,7 +10,7 @@ use Rattle.rules.specs.declared.refusal.Place.{Place}
 use Rattle.rules.specs.declared.answers.ReadAnswer.{ReadAnswer}
 use Rattle.rules.specs.Answers.{refusalNumber}
 use Rattle.rules.specs.Lines.{value}
-use Rattle.rules.specs.Settings.{noPiece, pieceInRange, pieceAt}
+use Rattle.rules.specs.Settings.{pieceInRange, unset, noPiece, pieceAt}
 use Rattle.rules.specs.Questions.{Outcome, done, refused, andThen, judgePiece}
 use Rattle.rules.specs.Stream.{unfilled, xy, propvalue, endel, RecordRead, readRecord, passRecords, Element, ElementRead, readProperty, elementFrom, ElementsRead, pieceOf, noElement, judgeElement}
 use Rattle.lines.specs.ReadLines.{cap}
@@ -47,10 +47,11 @@ readFigure k bytes =
     andThen (readProperty (4 + k) (points .rest)) λ digits.
     done (record { element = elementFrom (points .bytes) (digits .bytes); rest = digits .rest })
 
--- a piece is judged as an element is, and is the element's piece where it is in range
+-- a piece is judged as an element is, is the element's piece where it is in range, and has no fixed mask
 pub record Alike (e : Element) (p : Piece) : Type 0 where
   pub judged : (place : Place) → judgePiece place p ≡ judgeElement place e
   pub same : pieceInRange p ≡ true → p ≡ pieceOf e
+  pub free : p .fixed ≡ unset
 
 -- an element was read, with a piece like it, and as many bytes
 pub record ElementIs (o : Outcome ElementRead) (bytes : List ℕ) (piece : Piece) (size : ℕ) : Type 0 where

@@ -98,7 +98,7 @@ pub fn read_elements(bytes: &[u8]) -> Elements
     requires { ⌜ length (now bytes) ≤ 65_536 ⌝ }
     ensures { λ r. ⌜ ElementsTold (readElements (length (now (bytes .entry))) 7 (now (bytes .entry))) (now (bytes .entry)) r ⌝ }
 {
-    let mut records = text::no_pieces();
+    let mut records = piece_lines::no_pieces();
     let mut at = 0;
     let mut n = 0;
     while is_due(&bytes[at..], Kind::Boundary) {

@@ -1,21 +1,21 @@
--- Pieces as numbers: the list of the first n has n pieces, its piece i is the piece with number i, and so the questions of the list
--- are those of the numbers, and numbers that state a valid layer are in range. Assumes nothing.
+-- Pieces as numbers, without fixed masks: the list of the first n has n pieces, its piece i is the piece with number i, and so overlaps in
+-- the list are those of the numbers, and numbers that state a valid layer are in range. Assumes nothing.
 use mathlib.Core.Bool.{true, not}
 use mathlib.Core.List.{List, [], _∷_, _++_, map, map-append}
 use mathlib.Core.Path.{_≡_, sym, ap, ap₂, _∙_}
 use Prim.Native.Nat.{ℕ, zero, suc, _+_, _-_, _≤_, _<_}
 use native.Mathlib.Omega.{arith}
-use lib.Dec.{leb, leb·zero}
+use lib.Dec.{leb}
 use lib.ListN.{length, take, length-map}
 use lib.Seq.{take-all, take-append-le}
-use borrow.Author.Tests.{le-leb, lt-leb, leb-true}
+use borrow.Author.Tests.{leb-true}
 use Rattle.rules.specs.declared.layer.Settings.{Settings}
 use Rattle.rules.specs.declared.layer.Piece.{Piece}
 use Rattle.rules.specs.declared.refusal.Place.{Place}
 use Rattle.rules.specs.Basics.{upTo, anyOf}
 use Rattle.rules.specs.Settings.{settingsInRange, pieceInRange, hasArea, pieceAt}
 use Rattle.rules.specs.Edges.{overlapping}
-use Rattle.rules.specs.Questions.{Outcome, refused, ask, andThen, askEach, judgePiece, judgeOverlaps, judgeLayer, Valid}
+use Rattle.rules.specs.Questions.{Outcome, ask, askEach, judgeOverlaps, Valid}
 use Rattle.rules.proofs.Validity.{valid-sound}
 use Rattle.layout.specs.Flat.{pieceOf, piecesOf}
 use Rattle.rules.proofs.Tests.{and-right}
@@ -49,11 +49,7 @@ pub piece-of : (flat : List ℕ) (n i : ℕ) → i < n → pieceAt (piecesOf fla
 unfolding piecesOf
 piece-of flat n i h = mapped-upTo (pieceOf flat) _ n i h
 
--- ---- the questions
-
--- 4 and 5 of piece i
-abbrev pub pieceQuestion : List ℕ → ℕ → Outcome (Unit {0})
-pieceQuestion flat i = judgePiece (Place.Piece i) (pieceOf flat i)
+-- ---- overlaps
 
 -- 6 of piece j
 abbrev pub overlapQuestion : List ℕ → ℕ → Outcome (Unit {0})
@@ -64,17 +60,6 @@ unfolding judgeOverlaps
 overlaps-of flat n =
     rw (pieces-length flat n)
     (each-ext n λ j h. rw (any-ext j λ i l. ap₂ overlapping (piece-of flat n i (omega arith)) (piece-of flat n j h)))
-
-module _ (s : Settings) (flat : List ℕ) (n : ℕ) (inRange : settingsInRange s ≡ true) where
-  pub layer-too-long : 512 < n → judgeLayer s (piecesOf flat n) ≡ refused 4 Place.Nothing
-  unfolding judgeLayer
-  layer-too-long h = rw (inRange, pieces-length flat n, lt-leb n 512 h, leb·zero n)
-
-  pub layer-of : n ≤ 512 → judgeLayer s (piecesOf flat n) ≡ andThen (askEach (pieceQuestion flat) n) λ _. judgeOverlaps (piecesOf flat n)
-  unfolding judgeLayer
-  layer-of h =
-      rw (inRange, pieces-length flat n, le-leb n 512 h, leb·zero n)
-      (rw (each-ext n λ i l. ap (judgePiece (Place.Piece i)) (piece-of flat n i l)))
 
 -- ---- what is true of numbers that state a valid layer
 

@@ -1,5 +1,5 @@
--- Storing pieces as numbers: five stores put one piece in its place, and storing the next piece of a list makes the first n of it the
--- first n + 1. No other piece changes. Assumes nothing.
+-- Storing pieces as numbers, with their fixed masks: six stores put one piece in its place, and storing the next piece of a list makes the
+-- first n of it the first n + 1. No other piece changes. Assumes nothing.
 use mathlib.Core.List.{List, [], _∷_, _++_}
 use mathlib.Core.Path.{_≡_, refl, sym, ap₂, _∙_}
 use Prim.Native.Nat.{ℕ, _+_, _*_, _≤_, _<_}
@@ -10,8 +10,8 @@ use lib.Seq.{getD-set-same, getD-set-other, take-suc, ext-getD}
 use Rattle.rules.specs.declared.layer.Piece.{Piece}
 use Rattle.rules.specs.Settings.{noPiece, pieceAt}
 use Rattle.rules.specs.Basics.{upFrom}
-use Rattle.layout.specs.Flat.{pieceOf, piecesOf, Stored, FirstStored}
-use Rattle.layout.proofs.PieceLaws.{pieces-length, pieces-snoc, piece-of}
+use Rattle.layout.specs.Flat.{pieceOf, recordOf, recordsOf, Stored, FirstStored}
+use Rattle.layout.proofs.RecordLaws.{records-length, records-snoc, record-of}
 
 -- ---- one piece
 
@@ -80,12 +80,14 @@ module _ (flat : List ℕ) (i : ℕ) (p : Piece) where
     at-y2 : getD (after5 flat i p) (5 * i + 4) 0 ≡ p .y2
     at-y2 = getD-set-same (after4 flat i p) (5 * i + 4) (p .y2) 0 (simp length-set (omega arith))
 
-  pub piece-stored : 5 * i + 4 < length flat → Stored i p flat (after5 flat i p)
-  unfolding pieceOf
-  piece-stored room = record {
-    stored = rw (at-shape room, at-x1 room, at-y1 room, at-x2 room, at-y2 room);
+  pub piece-stored : (fixed : List ℕ) → 5 * i + 4 < length flat → i < length fixed → Stored i p flat fixed (after5 flat i p) (set fixed i (p .fixed))
+  unfolding pieceOf recordOf
+  piece-stored fixed room inside = record {
+    stored = rw (at-shape room, at-x1 room, at-y1 room, at-x2 room, at-y2 room, getD-set-same fixed i (p .fixed) 0 inside);
+    whole = length-set fixed i (p .fixed);
     others = λ j n.
         rw (
+          getD-set-other fixed i j (p .fixed) 0 n,
           kept j (5 * j) 0 n (omega arith) (omega arith),
           kept j (5 * j + 1) 1 n (omega arith) (omega arith),
           kept j (5 * j + 2) 2 n (omega arith) (omega arith),
@@ -96,24 +98,25 @@ module _ (flat : List ℕ) (i : ℕ) (p : Piece) where
 
 -- ---- a list of pieces
 
--- pieces whose numbers are alike
-pieces-alike : (f g : List ℕ) (n : ℕ) → ((i : ℕ) → i < n → pieceOf f i ≡ pieceOf g i) → piecesOf f n ≡ piecesOf g n
-pieces-alike f g n h =
-    ext-getD noPiece _ _ (pieces-length f n ∙ sym (pieces-length g n)) λ i l.
-    let low : i < n = omega (arith, pieces-length f n) in
-    piece-of f n i low ∙ h i low ∙ sym (piece-of g n i low)
+-- pieces whose numbers and fixed masks are alike
+records-alike : (f a g b : List ℕ) (n : ℕ) → ((i : ℕ) → i < n → recordOf f a i ≡ recordOf g b i) → recordsOf f a n ≡ recordsOf g b n
+records-alike f a g b n h =
+    ext-getD noPiece _ _ (records-length f a n ∙ sym (records-length g b n)) λ i l.
+    let low : i < n = omega (arith, records-length f a n) in
+    record-of f a n i low ∙ h i low ∙ sym (record-of g b n i low)
 
 -- none yet
-pub none-stored : (ps : List Piece) (flat : List ℕ) → FirstStored 0 ps flat flat
-unfolding piecesOf upFrom
-none-stored ps flat = record { stored = refl; others = λ j l. refl }
+pub none-stored : (ps : List Piece) (flat fixed : List ℕ) → FirstStored 0 ps flat fixed flat fixed
+unfolding recordsOf upFrom
+none-stored ps flat fixed = record { stored = refl; others = λ j l. refl; whole = refl }
 
 -- the next one
-pub next-stored : (ps : List Piece) (n : ℕ) {first before after : List ℕ} → n < length ps → FirstStored n ps first before → Stored n (pieceAt ps n) before after
-    → FirstStored (n + 1) ps first after
-next-stored ps n {first} {before} {after} room done put = record {
+pub next-stored : (ps : List Piece) (n : ℕ) {first fixed before fixed₁ after fixed₂ : List ℕ} → n < length ps → FirstStored n ps first fixed before fixed₁
+    → Stored n (pieceAt ps n) before fixed₁ after fixed₂ → FirstStored (n + 1) ps first fixed after fixed₂
+next-stored ps n {first} {fixed} {before} {fixed₁} {after} {fixed₂} room done put = record {
   stored =
-      rw (add-one n, pieces-snoc after n, take-suc ps n noPiece room)
-      (ap₂ (λ (xs : List Piece) (p : Piece). xs ++ (p ∷ [])) (pieces-alike after before n (λ i l. put .others i (λ e. omega arith)) ∙ done .stored) (put .stored));
+      rw (add-one n, records-snoc after fixed₂ n, take-suc ps n noPiece room)
+      (ap₂ (λ (xs : List Piece) (p : Piece). xs ++ (p ∷ [])) (records-alike after fixed₂ before fixed₁ n (λ i l. put .others i (λ e. omega arith)) ∙ done .stored) (put .stored));
   others = λ j l. put .others j (λ e. omega arith) ∙ done .others j (omega arith);
+  whole = put .whole ∙ done .whole;
 }

@@ -1,11 +1,12 @@
 // The edge between two pieces (RULES 2 and 17). Inside, pieces are judged already; the public call judges them as a layer of two.
 ghost use mathlib.Core.List.{[], _∷_};
-ghost use mathlib.Core.Bool.{true};
+ghost use mathlib.Core.Bool.{true, _&&_};
 ghost use mathlib.Core.Path.{_≡_};
 ghost use Prim.Native.Nat.{_*_, _≤_};
 ghost use Rattle.rules.specs.Answers.{edgeAnswer};
 ghost use Rattle.rules.specs.Calls.{edgeBetween};
-ghost use Rattle.rules.specs.Settings.{settingsInRange, pieceInRange};
+ghost use Rattle.rules.specs.Settings.{settingsInRange, pieceInRange, fixedMasks};
+ghost use Rattle.rules.specs.Score.{apart};
 ghost use Rattle.rules.specs.Edges.{contact, squaredGap, conflictEdge, stitchEdge, tied, edgeOf};
 ghost use Rattle.rules.specs.Questions.{judgeLayer};
 ghost use Rattle.layout.specs.Judged.{judgement};
@@ -13,7 +14,7 @@ use crate::distance::gap;
 use crate::distance::meet;
 use crate::distance::overlap;
 use crate::judging::Judgement;
-use crate::judging::judge_piece;
+use crate::judging::judge_record;
 use crate::judging::pieces_overlap;
 use rules::Edge;
 use rules::EdgeAnswer;
@@ -79,7 +80,7 @@ fn stitch(settings: Settings, a: Piece, b: Piece) -> bool
 }
 
 // Whether two pieces are tied.
-fn tie(settings: Settings, a: Piece, b: Piece) -> bool
+pub fn tie(settings: Settings, a: Piece, b: Piece) -> bool
     ensures { λ r. ⌜ r ≡ tied settings a b ⌝ }
 {
     if a.shape != b.shape {
@@ -108,23 +109,39 @@ pub fn judged_edge(settings: Settings, a: Piece, b: Piece) -> Edge
     Edge::None
 }
 
-// Questions 4 to 6 of the layer of two pieces.
+// Whether two tied pieces have different fixed masks.
+fn fixed_apart(settings: Settings, a: Piece, b: Piece) -> bool
+    ensures { λ r. ⌜ r ≡ (apart (fixedMasks (a ∷ b ∷ [])) 0 1 && tied settings a b) ⌝ }
+{
+    if a.fixed == Piece::UNSET {
+        return false;
+    }
+    if b.fixed == Piece::UNSET {
+        return false;
+    }
+    a.fixed != b.fixed && tie(settings, a, b)
+}
+
+// Questions 4 to 6, 13 and 14 of the layer of two pieces.
 fn judge_pair(settings: Settings, a: Piece, b: Piece) -> Judgement
     ensures { λ r. ⌜ judgement r ≡ judgeLayer settings (a ∷ b ∷ []) ⌝ }
 {
     if !settings.in_range() {
         return Judgement::Refused(Refusal::Range, Place::Nothing);
     }
-    let first = judge_piece(Place::Piece(0), a);
+    let first = judge_record(settings.masks, Place::Piece(0), a, a.fixed);
     if let Judgement::Refused(refusal, place) = first {
         return Judgement::Refused(refusal, place);
     }
-    let second = judge_piece(Place::Piece(1), b);
+    let second = judge_record(settings.masks, Place::Piece(1), b, b.fixed);
     if let Judgement::Refused(refusal, place) = second {
         return Judgement::Refused(refusal, place);
     }
     if pieces_overlap(a, b) {
         return Judgement::Refused(Refusal::Overlap, Place::Piece(1));
+    }
+    if fixed_apart(settings, a, b) {
+        return Judgement::Refused(Refusal::FixedSplit, Place::Piece(1));
     }
     Judgement::Passed
 }

@@ -1,12 +1,12 @@
-// Questions 4 to 6 of a layer in numbers (RULES 11).
+// Questions 4 to 6 and 13 of a layer in numbers (RULES 11).
 ghost use mathlib.Core.Path.{_≡_};
 ghost use Prim.Native.Nat.{_≤_, _<_};
 ghost use Rattle.rules.specs.declared.refusal.Place.{Place};
 ghost use Rattle.rules.specs.Basics.{anyOf, upTo};
-ghost use Rattle.rules.specs.Settings.{pieceInRange, hasArea};
+ghost use Rattle.rules.specs.Settings.{pieceInRange, hasArea, fixedInRange};
 ghost use Rattle.rules.specs.Edges.{overlapping};
-ghost use Rattle.rules.specs.Questions.{askEach, judgePiece, judgeLayer, judgeOverlaps};
-ghost use Rattle.layout.specs.Flat.{pieceOf, piecesOf};
+ghost use Rattle.rules.specs.Questions.{askEach, judgePiece, judgeRecord, judgeRecords, judgeOverlaps, withFixed};
+ghost use Rattle.layout.specs.Flat.{pieceOf, piecesOf, recordOf, recordsOf};
 ghost use Rattle.layout.specs.Judged.{judgement};
 use crate::distance::overlap;
 use crate::flat::piece_at;
@@ -56,6 +56,29 @@ pub fn judge_piece(place: Place, p: Piece) -> Judgement
     Judgement::Passed
 }
 
+// Whether a fixed mask is below the limit, or there is none.
+fn fixed_in_range(limit: u32, mask: u8) -> bool
+    ensures { λ r. ⌜ r ≡ fixedInRange limit mask ⌝ }
+{
+    mask == Piece::UNSET || (mask as u32) < limit
+}
+
+// Questions 4, 13 and 5 of one piece, with its fixed mask beside it.
+pub fn judge_record(masks: u32, place: Place, p: Piece, fixed: u8) -> Judgement
+    ensures { λ r. ⌜ judgement r ≡ judgeRecord masks place (withFixed fixed p) ⌝ }
+{
+    if !piece_in_range(p) {
+        return Judgement::Refused(Refusal::Range, place);
+    }
+    if !fixed_in_range(masks, fixed) {
+        return Judgement::Refused(Refusal::FixedRange, place);
+    }
+    if !has_area(p) {
+        return Judgement::Refused(Refusal::Area, place);
+    }
+    Judgement::Passed
+}
+
 // Whether two pieces of one shape overlap.
 pub fn pieces_overlap(a: Piece, b: Piece) -> bool
     ensures { λ r. ⌜ r ≡ overlapping a b ⌝ }
@@ -66,14 +89,14 @@ pub fn pieces_overlap(a: Piece, b: Piece) -> bool
     0 < overlap(a.x1, a.x2, b.x1, b.x2) && 0 < overlap(a.y1, a.y2, b.y1, b.y2)
 }
 
-// Questions 4 and 5 of the first n pieces.
-pub fn judge_pieces(flat: &[u32; 2560], n: usize) -> Judgement
+// Questions 4, 13 and 5 of the first n pieces.
+pub fn judge_each(masks: u32, flat: &[u32; 2560], fixed: &[u8; 512], n: usize) -> Judgement
     requires { ⌜ n ≤ 512 ⌝ }
-    ensures { λ r. ⌜ judgement r ≡ askEach (λ i. judgePiece (Place.Piece i) (pieceOf (now (flat .entry)) i)) n ⌝ }
+    ensures { λ r. ⌜ judgement r ≡ askEach (λ i. judgeRecord masks (Place.Piece i) (recordOf (now (flat .entry)) (now (fixed .entry)) i)) n ⌝ }
 {
     let mut i = 0;
     while i < n {
-        let judged = judge_piece(Place::Piece(i as u32), piece_at(flat, i));
+        let judged = judge_record(masks, Place::Piece(i as u32), piece_at(flat, i), fixed[i]);
         if let Judgement::Refused(refusal, place) = judged {
             return Judgement::Refused(refusal, place);
         }
@@ -113,9 +136,9 @@ pub fn judge_overlaps(flat: &[u32; 2560], n: usize) -> Judgement
     Judgement::Passed
 }
 
-// Questions 4 to 6 of the layer of the first n pieces. Past 512 the array states no pieces, and n alone is refused.
-pub fn judge(settings: Settings, flat: &[u32; 2560], n: usize) -> Judgement
-    ensures { λ r. ⌜ judgement r ≡ judgeLayer settings (piecesOf (now (flat .entry)) n) ⌝ }
+// Questions 4 to 6 and 13 of the layer of the first n pieces. Past 512 the arrays state no pieces, and n alone is refused.
+pub fn judge(settings: Settings, flat: &[u32; 2560], fixed: &[u8; 512], n: usize) -> Judgement
+    ensures { λ r. ⌜ judgement r ≡ judgeRecords settings (recordsOf (now (flat .entry)) (now (fixed .entry)) n) ⌝ }
 {
     if !settings.in_range() {
         return Judgement::Refused(Refusal::Range, Place::Nothing);
@@ -123,7 +146,7 @@ pub fn judge(settings: Settings, flat: &[u32; 2560], n: usize) -> Judgement
     if Piece::COUNT_GREATEST < n {
         return Judgement::Refused(Refusal::Range, Place::Nothing);
     }
-    let pieces = judge_pieces(flat, n);
+    let pieces = judge_each(settings.masks, flat, fixed, n);
     if let Judgement::Refused(refusal, place) = pieces {
         return Judgement::Refused(refusal, place);
     }

@@ -19,7 +19,7 @@ use Rattle.rules.specs.Demands.{Demand3OfRead}
 use Rattle.rules.specs.Loader.{loaderNumber}
 use Rattle.rules.specs.Questions.{Outcome, done, refused, Layer, Valid}
 use Rattle.rules.specs.ResultText.{resultText}
-use Rattle.layout.specs.Flat.{piecesOf}
+use Rattle.layout.specs.Flat.{recordsOf}
 use Rattle.theory.proofs.Demand3.{demand3}
 use Rattle.text.proofs.HandedLayers.{ReadsValid, handed-refused, handed-read, read-few, read-judged}
 use Rattle.demands.proofs.ResultSizes.{result-fits}
@@ -30,8 +30,9 @@ use Rattle.loader.specs.Numbers.{asNumber}
 -- ---- The run
 
 -- where there is a mask for each piece, the pieces are those of the records
-pub with-masks : (flat masks : List ℕ) (count : ℕ) {ps : List Piece} → count ≤ length masks → piecesOf flat count ≡ ps → piecesOf flat (length (take count masks)) ≡ ps
-with-masks flat masks count h e = ap (piecesOf flat) (length-take-le count masks h) ∙ e
+pub with-masks : (flat fixed masks : List ℕ) (count : ℕ) {ps : List Piece} → count ≤ length masks → recordsOf flat fixed count ≡ ps
+    → recordsOf flat fixed (length (take count masks)) ≡ ps
+with-masks flat fixed masks count h e = ap (recordsOf flat fixed) (length-take-le count masks h) ∙ e
 
 module _ (s : Settings) (ps : List Piece) {r : Run} (same : r ≡ run s ps) where
   -- its text has room

@@ -7,7 +7,7 @@ ghost use Rattle.rules.specs.Calls.{decomposeRead, decomposeText, decomposeStre
 ghost use Rattle.rules.specs.Decomposition.{run};
 ghost use Rattle.rules.specs.Demands.{Demand3OfText, Demand3OfStream};
 ghost use Rattle.rules.specs.Questions.{Valid};
-ghost use Rattle.layout.specs.Flat.{piecesOf};
+ghost use Rattle.layout.specs.Flat.{recordsOf};
 ghost use Rattle.loader.specs.Read.{outcomeOf, Judged};
 ghost use Rattle.loader.specs.Written.{Wrote};
 use rules::LayerRead;
@@ -19,12 +19,18 @@ use rules::Settings;
 use rules::WriteAnswer;
 
 // Runs a judged layer, with a lent list for the masks, and writes the result text at the buffer's front.
-fn write_run(settings: Settings, flat: &[u32; 2560], masks: &mut [u8], buffer: &mut [u8]) -> usize
-    requires { ⌜ Valid settings (piecesOf (now flat) (length (now masks))) ⌝ }
+fn write_run(
+    settings: Settings,
+    flat: &[u32; 2560],
+    fixed: &[u8; 512],
+    masks: &mut [u8],
+    buffer: &mut [u8],
+) -> usize
+    requires { ⌜ Valid settings (recordsOf (now flat) (now fixed) (length (now masks))) ⌝ }
     requires { ⌜ 4_096 ≤ length (now buffer) ⌝ }
-    ensures { λ r. ⌜ Wrote (run settings (piecesOf (now (flat .entry)) (length (now (masks .entry))))) (now (buffer .entry)) r (now (buffer .exit)) ⌝ }
+    ensures { λ r. ⌜ Wrote (run settings (recordsOf (now (flat .entry)) (now (fixed .entry)) (length (now (masks .entry))))) (now (buffer .entry)) r (now (buffer .exit)) ⌝ }
 {
-    let result = decomposer::decompose(settings, flat, masks.len(), masks);
+    let result = decomposer::decompose(settings, flat, fixed, masks.len(), masks);
     writer::write_result(buffer, result, masks)
 }
 
@@ -36,9 +42,10 @@ fn write_run_of(settings: Settings, records: [Piece; 512], count: usize, buffer:
     ensures { λ r. ⌜ Wrote (run settings (take count records)) (now (buffer .entry)) r (now (buffer .exit)) ⌝ }
 {
     let mut flat = [0u32; 2560];
-    layout::flatten(records, count, &mut flat);
+    let mut fixed = [0u8; 512];
+    layout::flatten(records, count, &mut flat, &mut fixed);
     let mut masks = [0u8; 512];
-    write_run(settings, &flat, &mut masks[..count], buffer)
+    write_run(settings, &flat, &fixed, &mut masks[..count], buffer)
 }
 
 // What was read, decomposed: the result text, or the refusal and the buffer as it was. Reading leaves nothing behind, so the buffer's
@@ -59,7 +66,8 @@ fn write_read(read: LayerRead, buffer: &mut [u8]) -> WriteAnswer
     WriteAnswer::Written(write_run_of(read.settings, records, read.count, buffer))
 }
 
-// The result text of the layer that a text states, or the first of the refusals 1 to 6 and the buffer as it was.
+// The result text of the layer that a text states, or the first of the refusals 1 to 6, 13 and 14 and the buffer as it
+// was.
 pub fn decompose_text(text: &[u8], buffer: &mut [u8]) -> WriteAnswer
     ensures { λ r. ⌜ writeAnswer r ≡ lengthOf (decomposeText (now (text .entry)) (now (buffer .entry))) ⌝ }
     ensures { λ _. ⌜ now (buffer .exit) ≡ bufferAfter (decomposeText (now (text .entry)) (now (buffer .entry))) (now (buffer .entry)) ⌝ }
@@ -68,7 +76,7 @@ pub fn decompose_text(text: &[u8], buffer: &mut [u8]) -> WriteAnswer
     write_read(text::read_layer(text), buffer)
 }
 
-// The same of the layer that a settings text and a stream state, with the refusals 9 to 11 besides.
+// The same of the layer that a settings text and a stream state, which fixes no masks: the refusals are 1 to 6 and 9 to 11.
 pub fn decompose_stream(settings: &[u8], stream: &[u8], buffer: &mut [u8]) -> WriteAnswer
     ensures { λ r. ⌜ writeAnswer r ≡ lengthOf (decomposeStream (now (settings .entry)) (now (stream .entry)) (now (buffer .entry))) ⌝ }
     ensures { λ _. ⌜ now (buffer .exit) ≡ bufferAfter (decomposeStream (now (settings .entry)) (now (stream .entry)) (now (buffer .entry))) (now (buffer .entry)) ⌝ }

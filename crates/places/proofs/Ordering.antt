@@ -1,6 +1,6 @@
--- Members stored in rising order, and masks put down at vertices, one after the other. Assumes nothing.
+-- Members stored in rising order, the fixed masks of places, and masks put down at vertices, one after the other. Assumes nothing.
 use mathlib.Core.Bool.{not, _&&_}
-use mathlib.Core.List.{List, [], _∷_, _++_, append-nil, append-assoc}
+use mathlib.Core.List.{List, [], _∷_, _++_, map, append-nil, append-assoc, map-append}
 use mathlib.Core.Path.{_≡_, refl, sym, ap, ap₂, subst, _∙_}
 use Prim.Native.Nat.{ℕ, suc, _+_, _≤_, _<_}
 use native.Mathlib.Numerals.{add-one}
@@ -10,9 +10,11 @@ use lib.ListN.{length, getD, take, set, length-set, length-append}
 use lib.Seq.{take-suc, take-suc-set, getD-take, getD-set-other, length-take-le}
 use Rattle.bitset.specs.Bits.{member, First}
 use Rattle.rules.specs.Basics.{without}
+use Rattle.rules.specs.Settings.{unset}
 use Rattle.rules.specs.Decomposition.{putMasks}
-use Rattle.rules.proofs.Lists.{_∈_, place-in}
+use Rattle.rules.proofs.Lists.{_∈_, place-in, default-same}
 use Rattle.adjacency.specs.Members.{membersOf}
+use Rattle.adjacency.specs.UnitGraph.{fixedAt}
 use Rattle.adjacency.proofs.MemberLaws.{in-members, members-none, members-few, members-first, members-out}
 use Rattle.places.specs.Order.{Ordered}
 
@@ -63,6 +65,20 @@ module _ {members before after rest : List ℕ} {n : ℕ} (o : Ordering members 
         whole = o .whole;
         past = o .past;
       }
+
+-- ---- Fixed masks of places
+
+-- one place more
+pub fixed-next : (order fixed masks : List ℕ) (i : ℕ) → i < length order → i < length masks → getD order i 0 < length fixed
+    → take i masks ≡ map (fixedAt fixed) (take i order)
+    → take (i + 1) (set masks i (getD fixed (getD order i 0) 0)) ≡ map (fixedAt fixed) (take (i + 1) order)
+fixed-next order fixed masks i h k l e =
+    let m = getD fixed (getD order i 0) 0 in
+    rw (add-one i)
+    (take-suc-set masks i m k
+    ∙ ap₂ (λ (ms : List ℕ) (x : ℕ). ms ++ (x ∷ [])) e (default-same fixed (getD order i 0) 0 unset l)
+    ∙ sym (map-append (fixedAt fixed) (take i order) (getD order i 0 ∷ []))
+    ∙ ap (map (fixedAt fixed)) (sym (take-suc order i 0 h)))
 
 -- ---- Masks at vertices
 

@@ -7,4 +7,5 @@ mod order;
 
 pub use lists::lay_out;
 pub use order::list_members;
+pub use order::local_fixed;
 pub use order::put_masks;

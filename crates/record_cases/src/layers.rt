@@ -1,13 +1,14 @@
 // The layers of the cases; each is an array of more records than a layer may have.
 ghost use mathlib.Core.Path.{_≡_};
 ghost use Prim.Native.Nat.{_<_};
-ghost use Rattle.rules.specs.Questions.{pieceFrom};
+ghost use Rattle.rules.specs.Questions.{pieceFrom, fixAt};
 ghost use Rattle.record_cases.specs.Layers.{fourRecords, farSquare, recordsOf};
 ghost use Rattle.record_cases.specs.declared.layers.Layer.{Layer};
 use rules::Piece;
 
 // The three squares of RULES 9; those with a piece of no width, one out of range, or one that overlaps; a wire in halves with a piece
-// beside each; squares far apart; and two tied pieces with two neighbours.
+// beside each; squares far apart; two tied pieces with two neighbours. The row with its middle piece fixed to mask 0, the row with the thin
+// piece fixed to mask 2, and the tied pieces fixed to masks 0 and 1.
 pub enum Layer {
     Row,
     Thin,
@@ -16,6 +17,9 @@ pub enum Layer {
     Wire,
     Far,
     Tied,
+    FixedRow,
+    FixedThin,
+    FixedTied,
 }
 
 // The piece that five numbers state: its shape and its corners.
@@ -28,6 +32,7 @@ fn piece(five: [u32; 5]) -> Piece
         y1: five[2],
         x2: five[3],
         y2: five[4],
+        fixed: Piece::UNSET,
     }
 }
 
@@ -108,6 +113,40 @@ fn tied() -> [Piece; 513]
     )
 }
 
+// The records with the mask of record i fixed.
+fn fix(records: [Piece; 513], i: usize, mask: u8) -> [Piece; 513]
+    requires { ⌜ i < 513 ⌝ }
+    ensures { λ r. ⌜ r ≡ fixAt i mask records ⌝ }
+{
+    let mut all = records;
+    let mut piece = all[i];
+    piece.fixed = mask;
+    all[i] = piece;
+    all
+}
+
+fn fixed_row() -> [Piece; 513]
+    ensures { λ r. ⌜ r ≡ recordsOf Layer.FixedRow ⌝ }
+{
+    let records = row();
+    fix(records, 1, 0)
+}
+
+fn fixed_thin() -> [Piece; 513]
+    ensures { λ r. ⌜ r ≡ recordsOf Layer.FixedThin ⌝ }
+{
+    let records = thin();
+    fix(records, 1, 2)
+}
+
+fn fixed_tied() -> [Piece; 513]
+    ensures { λ r. ⌜ r ≡ recordsOf Layer.FixedTied ⌝ }
+{
+    let records = tied();
+    let first = fix(records, 0, 0);
+    fix(first, 1, 1)
+}
+
 // A square of a grid with 32 in a row.
 fn far_square(i: u32) -> Piece
     requires { ⌜ i < 513 ⌝ }
@@ -143,5 +182,8 @@ pub fn records_of(layer: Layer) -> [Piece; 513]
         Layer::Wire => wire(),
         Layer::Far => far(),
         Layer::Tied => tied(),
+        Layer::FixedRow => fixed_row(),
+        Layer::FixedThin => fixed_thin(),
+        Layer::FixedTied => fixed_tied(),
     }
 }

@@ -1,4 +1,4 @@
-// Runs the calls on lent records, and reports of each case whether it came out as stated in RULES 11 to 13 and 17: worked cases, and refusals,
+// Runs the calls on lent records, and reports of each case whether it came out as stated in RULES 11 to 13, 17 and 18: worked cases, and refusals,
 // after which lent memory must be as it was.
 ghost use Prim.Native.Nat.{_≤_};
 
@@ -221,6 +221,27 @@ fn results() {
     );
 }
 
+// Fixed masks are kept by a run; masks that break them are scored all the same.
+fn fixed_results() {
+    decompose(
+        b"decompose the row, piece 1 fixed to 0",
+        Layer::FixedRow,
+        2,
+        3,
+        3,
+        list(0x00000100, 9),
+        best(1, 0, 10, 6),
+    );
+    score(
+        b"score the row, piece 1 fixed to 0, on 0, 1, 0",
+        Layer::FixedRow,
+        3,
+        3,
+        0x00010000,
+        scored(1, 0, 10, 3),
+    );
+}
+
 fn scores() {
     score(
         b"score the row on 0, 1, 0",
@@ -281,8 +302,8 @@ fn text() {
     let size = io::read_full(STDIN_FILENO, &mut after);
     let mut buffer = io::large_buffer();
     write_in(
-        b"write the row",
-        Layer::Row,
+        b"write the row, piece 1 fixed to 0",
+        Layer::FixedRow,
         3,
         &mut buffer,
         &after,
@@ -300,6 +321,53 @@ fn bad_layers() {
     decompose_refused(b"decompose on 9 masks", Layer::Row, 9, 3, 3, 4, 0);
     decompose_refused(b"room for 2 masks", Layer::Row, 2, 3, 2, 7, 0);
     decompose_refused(b"room for 4 masks", Layer::Row, 2, 3, 4, 7, 0);
+}
+
+// The thin piece has neither a mask of two nor a width: the mask is asked first.
+fn bad_fixed() {
+    decompose_refused(
+        b"thin piece 1 fixed to 2 of 2",
+        Layer::FixedThin,
+        2,
+        3,
+        3,
+        13,
+        1,
+    );
+    decompose_refused(
+        b"thin piece 1 fixed to 2 of 3",
+        Layer::FixedThin,
+        3,
+        3,
+        3,
+        5,
+        1,
+    );
+    decompose_refused(
+        b"tied pieces fixed to 0 and 1",
+        Layer::FixedTied,
+        2,
+        4,
+        4,
+        14,
+        1,
+    );
+    score(
+        b"score 2 masks, tied pieces fixed to 0 and 1",
+        Layer::FixedTied,
+        4,
+        2,
+        0,
+        refused(14, 1),
+    );
+    write_refused(
+        b"write tied pieces fixed to 0 and 1",
+        Layer::FixedTied,
+        4,
+        32768,
+        14,
+        1,
+    );
 }
 
 fn bad_lists() {
@@ -364,10 +432,12 @@ fn bad_texts() {
 
 fn main() {
     results();
+    fixed_results();
     scores();
     half_done_scores();
     text();
     bad_layers();
+    bad_fixed();
     bad_lists();
     bad_masks();
     bad_texts();

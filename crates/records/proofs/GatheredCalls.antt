@@ -16,13 +16,13 @@ use Rattle.rules.specs.declared.refusal.Place.{Place}
 use Rattle.rules.specs.declared.answers.Scoring.{Scoring}
 use Rattle.rules.specs.Settings.{settingsInRange}
 use Rattle.rules.specs.Decomposition.{Run}
-use Rattle.rules.specs.Questions.{Outcome, refused, ask, andThen, judgeLayer}
+use Rattle.rules.specs.Questions.{Outcome, refused, ask, andThen, judgeFixed, judgeRecords, judgeLayer}
 use Rattle.rules.specs.Answers.{lengthOf}
 use Rattle.rules.specs.Calls.{scoreMasks, decomposeLayer, masksAfter, writeLayer, bufferAfter}
 use Rattle.rules.specs.Demands.{Demand3Of}
 use Rattle.rules.proofs.Tests.{lt-or-ge}
-use Rattle.layout.specs.Flat.{piecesOf}
-use Rattle.layout.proofs.PieceLaws.{pieces-length}
+use Rattle.layout.specs.Flat.{recordsOf}
+use Rattle.layout.proofs.RecordLaws.{records-length}
 use Rattle.records.specs.Gathered.{Gathered}
 
 -- ---- what is promised of a call on pieces: of its outcome, and of lent memory after it
@@ -44,43 +44,43 @@ Written s buffer o after ps =
 
 -- settings out of range are refused with the same number and place
 too-many : (s : Settings) (ps : List Piece) → 512 < length ps → judgeLayer s ps ≡ refused 4 Place.Nothing
-unfolding judgeLayer
+unfolding judgeLayer judgeRecords
 too-many s ps more = rw (lt-leb (length ps) 512 more, leb·zero (length ps)) (go (settingsInRange s))
   where
-    go : (b : Bool) → _≡_ {A = Outcome (Unit {0})} (andThen (ask b 4 Place.Nothing) (λ _. refused 4 Place.Nothing)) (refused 4 Place.Nothing)
+    go : (b : Bool) → _≡_ {A = Outcome (Unit {0})} (andThen {B = Unit {0}} (andThen {B = Unit {0}} (ask b 4 Place.Nothing) (λ _. refused 4 Place.Nothing)) (λ _. judgeFixed s ps)) (refused 4 Place.Nothing)
     go true = refl
     go false = refl
 
 -- ---- gathered records
 
 -- up to 512 all are stored
-all-stored : {ps : List Piece} {before after : List ℕ} {n : ℕ} → Gathered ps before after n → n ≤ 512 → piecesOf after n ≡ ps
-all-stored {ps} {before} {after} {n} gathered few =
+all-stored : {ps : List Piece} {before start after fixed : List ℕ} {n : ℕ} → Gathered ps before start after fixed n → n ≤ 512 → recordsOf after fixed n ≡ ps
+all-stored {ps} {n = n} gathered few =
     let all : min n 512 ≡ n = omega arith in
     rw all at (gathered .pieces .stored) ∙ take-all n ps (omega (arith, gathered .count))
 
-module _ (s : Settings) {ps : List Piece} {before flat : List ℕ} {n : ℕ} (gathered : Gathered ps before flat n) where
+module _ (s : Settings) {ps : List Piece} {before start flat fixed : List ℕ} {n : ℕ} (gathered : Gathered ps before start flat fixed n) where
   -- what holds of the numbers' pieces holds of the records, if it does where both are refused
   of-records : (P : List Piece → Type 0)
-      → (judgeLayer s (piecesOf flat n) ≡ refused 4 Place.Nothing → judgeLayer s ps ≡ refused 4 Place.Nothing → P (piecesOf flat n) → P ps)
-      → P (piecesOf flat n) → P ps
+      → (judgeLayer s (recordsOf flat fixed n) ≡ refused 4 Place.Nothing → judgeLayer s ps ≡ refused 4 Place.Nothing → P (recordsOf flat fixed n) → P ps)
+      → P (recordsOf flat fixed n) → P ps
   of-records P many =
       ⊎-elim
-      (λ more. many (too-many s (piecesOf flat n) (omega (arith, pieces-length flat n))) (too-many s ps (omega (arith, gathered .count))))
+      (λ more. many (too-many s (recordsOf flat fixed n) (omega (arith, records-length flat fixed n))) (too-many s ps (omega (arith, gathered .count))))
       (λ few. subst P (all-stored gathered few))
       (lt-or-ge 512 n)
 
-  pub scored : (masks : List ℕ) {o : Outcome Scoring} → Scored s masks o (piecesOf flat n) → Scored s masks o ps
+  pub scored : (masks : List ℕ) {o : Outcome Scoring} → Scored s masks o (recordsOf flat fixed n) → Scored s masks o ps
   unfolding scoreMasks
   scored masks {o} = of-records (Scored s masks o) (λ e f h. rw f (rw e at h))
 
-  pub decomposed : (masks : List ℕ) {after : List ℕ} {o : Outcome Run} → Decomposed s masks o after (piecesOf flat n) → Decomposed s masks o after ps
+  pub decomposed : (masks : List ℕ) {after : List ℕ} {o : Outcome Run} → Decomposed s masks o after (recordsOf flat fixed n) → Decomposed s masks o after ps
   unfolding decomposeLayer
   decomposed masks {after} {o} =
       of-records (Decomposed s masks o after) λ e f h.
       let none : o ≡ refused 4 Place.Nothing = rw e at (h .0) in
       (rw f none, (rw f (rw e at (h .1 .0)), λ r ran. let z : _≡_ {A = ℕ} 0 1 = cc in absurd (omega arith)))
 
-  pub written : (buffer : List ℕ) {after : List ℕ} {o : Outcome ℕ} → Written s buffer o after (piecesOf flat n) → Written s buffer o after ps
+  pub written : (buffer : List ℕ) {after : List ℕ} {o : Outcome ℕ} → Written s buffer o after (recordsOf flat fixed n) → Written s buffer o after ps
   unfolding writeLayer
   written buffer {after} {o} = of-records (Written s buffer o after) λ e f h. (rw f (rw e at (h .0)), rw f (rw e at (h .1)))

@@ -1,4 +1,4 @@
-// Lent records as numbers, five to a piece.
+// Lent records as numbers, five to a piece, with their fixed masks beside them.
 ghost use mathlib.Core.Path.{_≡_};
 ghost use Prim.Native.Nat.{_<_, min};
 ghost use lib.ListN.{length};
@@ -33,15 +33,16 @@ fn stored_of(n: usize) -> usize
 }
 
 // Stores the first 512 records at most, and answers how many there are. More are refused for their number alone.
-pub fn gather(pieces: &[Piece], flat: &mut [u32; 2560]) -> usize
-    ensures { λ r. ⌜ Gathered (now (pieces .entry)) (now (flat .entry)) (now (flat .exit)) r ⌝ }
+pub fn gather(pieces: &[Piece], flat: &mut [u32; 2560], fixed: &mut [u8; 512]) -> usize
+    requires { ⌜ length (now fixed) ≡ 512 ⌝ }
+    ensures { λ r. ⌜ Gathered (now (pieces .entry)) (now (flat .entry)) (now (fixed .entry)) (now (flat .exit)) (now (fixed .exit)) r ⌝ }
 {
     let n = count(pieces);
     let end = stored_of(n);
     let mut i = 0;
     while i < end {
         let piece = piece_at(pieces, i);
-        layout::put(flat, i, piece);
+        layout::put(flat, fixed, i, piece);
         i += 1;
     }
     n

@@ -10,12 +10,13 @@ use native.Mathlib.Omega.{arith}
 use lib.Dec.{eqb, ltb}
 use lib.ListN.{length, getD}
 use lib.Seq.{append-snoc}
-use borrow.Author.Tests.{ne-eqb, eqb-true, eqb-false, ltb-true, ltb-false}
+use borrow.Author.Tests.{eq-eqb, ne-eqb, eqb-true, eqb-false, ltb-true, ltb-false}
 use Rattle.bitset.specs.Bits.{member, hasEdge, both, Size, First}
 use Rattle.bitset.proofs.Counts.{count-none}
 use Rattle.rules.specs.Basics.{find, foundOr, without}
+use Rattle.rules.specs.Settings.{unset}
 use Rattle.rules.specs.Edges.{Graph, inStitch}
-use Rattle.rules.specs.Peeling.{conflictDegree, stitchDegree, lowDegree, mayGo, Removal, removalOf, Peeled, peelFor, peel}
+use Rattle.rules.specs.Peeling.{conflictDegree, stitchDegree, lowDegree, isPendant, isFixed, mayGo, Removal, removalOf, Peeled, peelFor, peel}
 use Rattle.rules.proofs.Lists.{_∈_, first-in, find-first, length-without, Distinct, count-some}
 use Rattle.rules.proofs.Tests.{by-test, clash, and-left, and-right}
 use Rattle.adjacency.specs.Adjacency.{wordGraph}
@@ -24,35 +25,42 @@ use Rattle.adjacency.proofs.MemberLaws.{in-members, members-distinct, members-f
 use Rattle.reduction.specs.Removals.{removalAt, removalsOf, Put, Stored, PeeledTo}
 use Rattle.reduction.proofs.MemberTests.{degree, among, found-member}
 
--- ---- whether v may go, by its two degrees
+-- ---- whether v may go
 
-module _ (K : ℕ) (conflicts stitches s : List ℕ) (v near stitched : ℕ) (nearBy : Size (both conflicts v s) near) (stitchedTo : Size (both stitches v s) stitched) where
-  by-degrees : mayGo K (wordGraph conflicts stitches) (membersOf s) v ≡ ((eqb stitched 0 && ltb near K) || (eqb near 0 && eqb stitched 1))
-  unfolding mayGo
-  by-degrees = rw (degree conflicts s v, degree stitches s v, ← nearBy .count, ← stitchedTo .count)
+-- not where it is fixed
+pub go-fixed : (K : ℕ) (g : Graph) (fixed : ℕ → ℕ) (there : List ℕ) (v : ℕ) → (fixed v ≡ unset → ⊥) → false ≡ mayGo K g fixed there v
+unfolding mayGo
+go-fixed K g fixed there v d = rw (ne-eqb (fixed v) unset d)
 
-  pub go-unstitched : stitched ≡ 0 → ltb near K ≡ mayGo K (wordGraph conflicts stitches) (membersOf s) v
-  go-unstitched e = sym (by-degrees ∙ rw (e, and-false (eqb near 0)) (or-false (ltb near K)))
+-- else by its two degrees
+module _ (K : ℕ) (conflicts stitches : List ℕ) (fixed : ℕ → ℕ) (s : List ℕ) (v near stitched : ℕ) (nearBy : Size (both conflicts v s) near) (stitchedTo : Size (both stitches v s) stitched) where
+  module _ (free : fixed v ≡ unset) where
+    by-degrees : mayGo K (wordGraph conflicts stitches) fixed (membersOf s) v ≡ ((eqb stitched 0 && ltb near K) || (eqb near 0 && eqb stitched 1))
+    unfolding mayGo
+    by-degrees = rw (eq-eqb (fixed v) unset free, degree conflicts s v, degree stitches s v, ← nearBy .count, ← stitchedTo .count)
 
-  pub go-pendant : stitched ≡ 1 → eqb near 0 ≡ mayGo K (wordGraph conflicts stitches) (membersOf s) v
-  go-pendant e = sym (by-degrees ∙ rw e (and-true (eqb near 0)))
+    pub go-unstitched : stitched ≡ 0 → ltb near K ≡ mayGo K (wordGraph conflicts stitches) fixed (membersOf s) v
+    go-unstitched e = sym (by-degrees ∙ rw (e, and-false (eqb near 0)) (or-false (ltb near K)))
 
-  pub go-never : (stitched ≡ 0 → ⊥) → (stitched ≡ 1 → ⊥) → false ≡ mayGo K (wordGraph conflicts stitches) (membersOf s) v
-  go-never d e = sym (by-degrees ∙ rw (ne-eqb stitched 0 d, ne-eqb stitched 1 e) (and-false (eqb near 0)))
+    pub go-pendant : stitched ≡ 1 → eqb near 0 ≡ mayGo K (wordGraph conflicts stitches) fixed (membersOf s) v
+    go-pendant e = sym (by-degrees ∙ rw e (and-true (eqb near 0)))
+
+    pub go-never : (stitched ≡ 0 → ⊥) → (stitched ≡ 1 → ⊥) → false ≡ mayGo K (wordGraph conflicts stitches) fixed (membersOf s) v
+    go-never d e = sym (by-degrees ∙ rw (ne-eqb stitched 0 d, ne-eqb stitched 1 e) (and-false (eqb near 0)))
 
 -- ---- the removal of v, by its lowest stitch neighbour
 
-module _ (K : ℕ) (conflicts stitches s : List ℕ) (v : ℕ) where
+module _ (K : ℕ) (conflicts stitches : List ℕ) (fixed : ℕ → ℕ) (s : List ℕ) (v : ℕ) where
   abbrev g : Graph
   g = wordGraph conflicts stitches
 
-  stitched-low : stitchDegree g (membersOf s) v ≡ 0 → mayGo K g (membersOf s) v ≡ true → lowDegree K g (membersOf s) v ≡ true
+  stitched-low : stitchDegree g (membersOf s) v ≡ 0 → mayGo K g fixed (membersOf s) v ≡ true → lowDegree K g (membersOf s) v ≡ true
   unfolding mayGo
   stitched-low e goes =
       by-test (lowDegree K g (membersOf s) v) (λ p. p)
-      (λ p. clash goes (rw (p, e) (and-false (eqb (conflictDegree g (membersOf s) v) 0))))
+      (λ p. clash (and-right (not (isFixed fixed v)) (lowDegree K g (membersOf s) v || isPendant g (membersOf s) v) goes) (rw (p, e) (and-false (eqb (conflictDegree g (membersOf s) v) 0))))
 
-  pub removal-found : (u : ℕ) → mayGo K g (membersOf s) v ≡ true → First (both stitches v s) u → removalAt v u ≡ removalOf K g (membersOf s) v
+  pub removal-found : (u : ℕ) → mayGo K g fixed (membersOf s) v ≡ true → First (both stitches v s) u → removalAt v u ≡ removalOf K g (membersOf s) v
   removal-found u goes first = by-test (ltb u 512) joined alone
     where
       joined : ltb u 512 ≡ true → removalAt v u ≡ removalOf K g (membersOf s) v
@@ -72,24 +80,24 @@ module _ (K : ℕ) (conflicts stitches s : List ℕ) (v : ℕ) where
 
 -- ---- rounds
 
-module _ (K : ℕ) (g : Graph) where
-  rounds-none : (rounds : ℕ) (there : List ℕ) → find (mayGo K g there) there ≡ none → peelFor rounds K g there ≡ record { removed = []; core = there }
+module _ (K : ℕ) (g : Graph) (fixed : ℕ → ℕ) where
+  rounds-none : (rounds : ℕ) (there : List ℕ) → find (mayGo K g fixed there) there ≡ none → peelFor rounds K g fixed there ≡ record { removed = []; core = there }
   unfolding peelFor
   rounds-none zero there e = refl
   rounds-none (suc rounds) there e = rw (e, peelFor)
 
-  peel-none : (there : List ℕ) → find (mayGo K g there) there ≡ none → peel K g there ≡ record { removed = []; core = there }
+  peel-none : (there : List ℕ) → find (mayGo K g fixed there) there ≡ none → peel K g fixed there ≡ record { removed = []; core = there }
   peel-none there = rounds-none (length there) there
 
-  rounds-some : (rounds : ℕ) (there : List ℕ) (v : ℕ) → find (mayGo K g there) there ≡ some v
-      → peelFor (suc rounds) K g there ≡ record { removed = removalOf K g there v ∷ peelFor rounds K g (without v there) .removed; core = peelFor rounds K g (without v there) .core }
+  rounds-some : (rounds : ℕ) (there : List ℕ) (v : ℕ) → find (mayGo K g fixed there) there ≡ some v
+      → peelFor (suc rounds) K g fixed there ≡ record { removed = removalOf K g there v ∷ peelFor rounds K g fixed (without v there) .removed; core = peelFor rounds K g fixed (without v there) .core }
   unfolding peelFor
   rounds-some rounds there v e = rw (e, peelFor)
 
-  peel-some : (there : List ℕ) (v : ℕ) → Distinct there → find (mayGo K g there) there ≡ some v
-      → peel K g there ≡ record { removed = removalOf K g there v ∷ peel K g (without v there) .removed; core = peel K g (without v there) .core }
+  peel-some : (there : List ℕ) (v : ℕ) → Distinct there → find (mayGo K g fixed there) there ≡ some v
+      → peel K g fixed there ≡ record { removed = removalOf K g there v ∷ peel K g fixed (without v there) .removed; core = peel K g fixed (without v there) .core }
   peel-some there v d e =
-      ap (λ (n : ℕ). peelFor n K g there) (sym (length-without (first-in (find-first (mayGo K g there) there e)) d))
+      ap (λ (n : ℕ). peelFor n K g fixed there) (sym (length-without (first-in (find-first (mayGo K g fixed there) there e)) d))
       ∙ rounds-some (length (without v there)) there v e
 
 -- ---- what is stored
@@ -133,17 +141,17 @@ ahead rs p = record { removed = rs ++ p .removed; core = p .core }
 ahead-snoc : (rs : List Removal) (r : Removal) (p : Peeled) → ahead rs (record { removed = r ∷ p .removed; core = p .core }) ≡ ahead (rs ++ (r ∷ [])) p
 ahead-snoc rs r p = ap (λ (l : List Removal). record { removed = l; core = p .core }) (sym (append-snoc rs r (p .removed)))
 
-pub record Progress (K : ℕ) (g : Graph) (before there oldVertices oldNeighbours vertices neighbours : List ℕ) (n : ℕ) : Type 0 where
-  pub same : peel K g (membersOf before) ≡ ahead (removalsOf n vertices neighbours) (peel K g (membersOf there))
+pub record Progress (K : ℕ) (g : Graph) (fixed : ℕ → ℕ) (before there oldVertices oldNeighbours vertices neighbours : List ℕ) (n : ℕ) : Type 0 where
+  pub same : peel K g fixed (membersOf before) ≡ ahead (removalsOf n vertices neighbours) (peel K g fixed (membersOf there))
   pub room : n + length (membersOf there) ≤ 512
   pub inside : (k : ℕ) → member there k ≡ true → member before k ≡ true
   pub stored : Stored before vertices neighbours n
   pub past-vertices : (i : ℕ) → n ≤ i → getD vertices i 0 ≡ getD oldVertices i 0
   pub past-neighbours : (i : ℕ) → n ≤ i → getD neighbours i 0 ≡ getD oldNeighbours i 0
 
-pub progress-none : (K : ℕ) (g : Graph) (before vertices neighbours : List ℕ) → Progress K g before before vertices neighbours vertices neighbours 0
+pub progress-none : (K : ℕ) (g : Graph) (fixed : ℕ → ℕ) (before vertices neighbours : List ℕ) → Progress K g fixed before before vertices neighbours vertices neighbours 0
 unfolding removalsOf
-progress-none K g before vertices neighbours = record {
+progress-none K g fixed before vertices neighbours = record {
   same = refl;
   room = omega (arith, members-few before);
   inside = λ k e. e;
@@ -152,20 +160,20 @@ progress-none K g before vertices neighbours = record {
   past-neighbours = λ i h. refl;
 }
 
-module _ (K : ℕ) (conflicts stitches before there oldVertices oldNeighbours vertices neighbours : List ℕ) (n v : ℕ)
-    (p : Progress K (wordGraph conflicts stitches) before there oldVertices oldNeighbours vertices neighbours n)
-    (found : v ≡ foundOr 512 (find (mayGo K (wordGraph conflicts stitches) (membersOf there)) (membersOf there))) where
+module _ (K : ℕ) (conflicts stitches : List ℕ) (fixed : ℕ → ℕ) (before there oldVertices oldNeighbours vertices neighbours : List ℕ) (n v : ℕ)
+    (p : Progress K (wordGraph conflicts stitches) fixed before there oldVertices oldNeighbours vertices neighbours n)
+    (found : v ≡ foundOr 512 (find (mayGo K (wordGraph conflicts stitches) fixed (membersOf there)) (membersOf there))) where
   abbrev words : Graph
   words = wordGraph conflicts stitches
 
   abbrev goes : ℕ → Bool
-  goes = mayGo K words (membersOf there)
+  goes = mayGo K words fixed (membersOf there)
 
-  pub progress-end : v ≡ 512 → PeeledTo K words before there oldVertices oldNeighbours vertices neighbours n
+  pub progress-end : v ≡ 512 → PeeledTo K words fixed before there oldVertices oldNeighbours vertices neighbours n
   progress-end e =
       let nothing : find goes (membersOf there) ≡ none
       = none-found (find goes (membersOf there)) (sym e ∙ found) (λ x q. in-members there x .0 (first-in (find-first goes (membersOf there) q)) .0) in
-      let all = p .same ∙ ap (ahead (removalsOf n vertices neighbours)) (peel-none K words (membersOf there) nothing) in
+      let all = p .same ∙ ap (ahead (removalsOf n vertices neighbours)) (peel-none K words fixed (membersOf there) nothing) in
       record {
         removed = sym (ap (λ (x : Peeled). x .removed) all ∙ append-nil (removalsOf n vertices neighbours));
         core = sym (ap (λ (x : Peeled). x .core) all);
@@ -191,14 +199,14 @@ module _ (K : ℕ) (conflicts stitches before there oldVertices oldNeighbours ve
 
     pub progress-more : (u : ℕ) {vertices' neighbours' there' : List ℕ} → First (both stitches v there) u
         → Put vertices vertices' n v → Put neighbours neighbours' n u → ((k : ℕ) → member there' k ≡ (member there k && not (eqb k v)))
-        → (Progress K words before there' oldVertices oldNeighbours vertices' neighbours' (n + 1)) × (length (membersOf there') < length (membersOf there))
+        → (Progress K words fixed before there' oldVertices oldNeighbours vertices' neighbours' (n + 1)) × (length (membersOf there') < length (membersOf there))
     progress-more u {vertices'} {neighbours'} {there'} first pv pu out =
-        let removal = removal-found K conflicts stitches there v u (find-first goes (membersOf there) it .pass) first in
+        let removal = removal-found K conflicts stitches fixed there v u (find-first goes (membersOf there) it .pass) first in
         let left : membersOf there' ≡ without v (membersOf there) = members-out there there' v out in
         let fewer : suc (length (membersOf there')) ≡ length (membersOf there) = rw left (length-without is-there (members-distinct there)) in
-        let rest = peel K words (membersOf there') in
-        let round : peel K words (membersOf there) ≡ record { removed = removalAt v u ∷ rest .removed; core = rest .core }
-        = rw (left, removal) (peel-some K words (membersOf there) v (members-distinct there) it) in (
+        let rest = peel K words fixed (membersOf there') in
+        let round : peel K words fixed (membersOf there) ≡ record { removed = removalAt v u ∷ rest .removed; core = rest .core }
+        = rw (left, removal) (peel-some K words fixed (membersOf there) v (members-distinct there) it) in (
           record {
             same =
                 p .same

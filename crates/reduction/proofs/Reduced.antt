@@ -14,8 +14,8 @@ use Rattle.adjacency.specs.Members.{membersOf}
 use Rattle.reduction.specs.Removals.{PeeledTo}
 use Rattle.reduction.specs.Returning.{Masked, Placeable, PutBack}
 
-module _ {K : ℕ} {g : Graph} {before after oldVertices oldNeighbours vertices neighbours : List ℕ} {n : ℕ}
-    (peeled : PeeledTo K g before after oldVertices oldNeighbours vertices neighbours n)
+module _ {K : ℕ} {g : Graph} {fixed : ℕ → ℕ} {before after oldVertices oldNeighbours vertices neighbours : List ℕ} {n : ℕ}
+    (peeled : PeeledTo K g fixed before after oldVertices oldNeighbours vertices neighbours n)
     {masks : List ℕ} (placed : (u : ℕ) → u < 512 → member before u ≡ true → u < length masks) where
   pub peeled-placeable : Placeable vertices neighbours masks n
   peeled-placeable =
@@ -30,7 +30,7 @@ module _ {K : ℕ} {g : Graph} {before after oldVertices oldNeighbours vertices 
   pub peeled-masked : ((i : ℕ) → getD masks i 0 < 8) → Masked after masks
   peeled-masked low = record { placed = λ u l e. placed u l (peeled .inside u e); low = low }
 
-pub put-back-all : (stitches : List ℕ) {K : ℕ} {words before after oldVertices oldNeighbours vertices neighbours : List ℕ} {n : ℕ} {masks result : List ℕ}
-    → PeeledTo K (wordGraph words stitches) before after oldVertices oldNeighbours vertices neighbours n → PutBack K words vertices neighbours n after masks result
-    → result ≡ withReturned K (wordGraph words stitches) (peel K (wordGraph words stitches) (membersOf before)) masks
+pub put-back-all : (stitches : List ℕ) {K : ℕ} {fixed : ℕ → ℕ} {words before after oldVertices oldNeighbours vertices neighbours : List ℕ} {n : ℕ} {masks result : List ℕ}
+    → PeeledTo K (wordGraph words stitches) fixed before after oldVertices oldNeighbours vertices neighbours n → PutBack K words vertices neighbours n after masks result
+    → result ≡ withReturned K (wordGraph words stitches) (peel K (wordGraph words stitches) fixed (membersOf before)) masks
 put-back-all stitches peeled back = rw (← peeled .removed, ← peeled .core) (back .masks stitches)

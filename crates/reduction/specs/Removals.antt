@@ -32,9 +32,9 @@ pub record Stored (before vertices neighbours : List ℕ) (n : ℕ) : Type 0 whe
   pub neighbour : (i : ℕ) → i < n → getD neighbours i 0 < 512 → member before (getD neighbours i 0) ≡ true
 
 -- The set `before` was peeled: n removals are stored over what the two arrays held at entry, and `after` is left.
-pub record PeeledTo (K : ℕ) (g : Graph) (before after oldVertices oldNeighbours vertices neighbours : List ℕ) (n : ℕ) : Type 0 where
-  pub removed : removalsOf n vertices neighbours ≡ peel K g (membersOf before) .removed
-  pub core : membersOf after ≡ peel K g (membersOf before) .core
+pub record PeeledTo (K : ℕ) (g : Graph) (fixed : ℕ → ℕ) (before after oldVertices oldNeighbours vertices neighbours : List ℕ) (n : ℕ) : Type 0 where
+  pub removed : removalsOf n vertices neighbours ≡ peel K g fixed (membersOf before) .removed
+  pub core : membersOf after ≡ peel K g fixed (membersOf before) .core
   pub few : n ≤ 512
   pub inside : (k : ℕ) → member after k ≡ true → member before k ≡ true
   pub stored : Stored before vertices neighbours n

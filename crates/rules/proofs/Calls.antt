@@ -23,7 +23,7 @@ use Rattle.rules.specs.ResultText.{resultText}
 use Rattle.rules.specs.Questions.{Outcome, done, refused, ask, judgeLayer, Valid, Layer, readLayer}
 use Rattle.rules.specs.Calls.{newSettings, edgeBetween, scoreMasks, decomposeLayer, writeLayer, decomposeRead, decomposeText}
 use Rattle.rules.specs.Loader.{loaderNumber, placeFrom}
-use Rattle.rules.specs.Refusals.{Ends, accepts, OfSettings, setting, OfRecords, OfMaskList, records, mask-count, OfMasks, mask-list, mask-range, split, OfText, size, form, range, area, overlap, OfBuffer, buffer, given}
+use Rattle.rules.specs.Refusals.{Ends, accepts, OfSettings, setting, OfRecords, OfMaskList, records, mask-count, OfMasks, mask-list, mask-range, split, OfText, size, form, range, area, fixed-range, overlap, fixed-split, OfBuffer, buffer, given}
 use Rattle.rules.specs.Demands.{layerScore, layerScoring}
 use Rattle.rules.proofs.Tests.{by-test}
 use Rattle.rules.proofs.Finding.{find-upTo}
@@ -129,4 +129,6 @@ loader-gives-back (given size) = record { question = refl; where-at = refl }
 loader-gives-back (given (form l)) = record { question = omega (arith, l .most); where-at = ap Place.Line (omega (arith, l .most)) }
 loader-gives-back (given (range l)) = record { question = omega (arith, l .most); where-at = ap Place.Line (omega (arith, l .most)) }
 loader-gives-back (given (area l)) = record { question = omega (arith, l .most); where-at = ap Place.Line (omega (arith, l .most)) }
+loader-gives-back (given (fixed-range l)) = record { question = omega (arith, l .most); where-at = ap Place.Line (omega (arith, l .most)) }
 loader-gives-back (given (overlap o c h)) = record { question = omega (arith, h); where-at = ap Place.Piece (omega (arith, h)) }
+loader-gives-back (given (fixed-split o c h)) = record { question = omega (arith, h); where-at = ap Place.Piece (omega (arith, h)) }

@@ -16,12 +16,12 @@ use Rattle.rules.specs.Score.{conflictsOf, stitchesOf, scoreOf, pairCost
 use Rattle.rules.specs.Peeling.{mayGo, peelFor}
 use Rattle.rules.specs.Components.{reachFor, componentsFor}
 use Rattle.rules.specs.Units.{partOf, edgesBetween, spread}
-use Rattle.rules.specs.Search.{added, totalAfter, cheapest, firstAfter, different, candidates, tryMasks, searchPlaces, completeMasks, completePlaces}
+use Rattle.rules.specs.Search.{added, totalAfter, cheapest, firstAfter, firstMask, different, candidates, candidatesIn, tryMasks, searchPlaces, completeMasks, completePlaces}
 use Rattle.rules.specs.Decomposition.{putMasks, searchAll, putBack, putBackAll, decompose, completeAll, complete, stepsInAll, Run, run}
 use Rattle.rules.specs.Lines.{ascii, digitsFor, commaList, line, numberLines, firstLine, afterKey, allDigits, isNumeral, valueAfter, partsOf, numbersOf, lineNumbers, lineOf}
-use Rattle.rules.specs.LayerText.{pieceLines, layerText}
+use Rattle.rules.specs.LayerText.{pieceLines, fixedLines, layerText}
 use Rattle.rules.specs.ResultText.{maskLines, resultText}
-use Rattle.rules.specs.Questions.{askEach, judgePiece, judgeOverlaps, judgeLayer, readLine, readNumber, readNumbers, readHeader, readPiece, readPieces, layerFrom, readBody, readLayer, Outcome, done}
+use Rattle.rules.specs.Questions.{askEach, judgePiece, judgeRecord, judgeOverlaps, judgeFixed, judgeRecords, judgeLayer, readLine, readNumber, readNumbers, readHeader, readPiece, readPieces, readFixed, readAllFixed, layerFrom, readBody, readLayer, Outcome, done}
 use Rattle.rules.specs.Calls.{edgeBetween, decomposeLayer, decomposeText}
 use Rattle.rules.specs.Loader.{printed}
 
@@ -30,7 +30,7 @@ abbrev pub settingsOf : ℕ → ℕ → Settings
 settingsOf K B = record { masks = K; spacing = 80; margin = 10; weight = 10; budget = B }
 
 abbrev pub piece : ℕ → ℕ → ℕ → ℕ → ℕ → Piece
-piece shape x1 y1 x2 y2 = record { shape = shape; x1 = x1; y1 = y1; x2 = x2; y2 = y2 }
+piece shape x1 y1 x2 y2 = record { shape = shape; x1 = x1; y1 = y1; x2 = x2; y2 = y2; fixed = 255 }
 
 abbrev pub result : List ℕ → ℕ → ℕ → ℕ → ℕ → Verdict → Run
 result masks conflicts stitches cost steps verdict = record {
@@ -127,7 +127,7 @@ pub record Cases : Type 0 where
   pub stitches-paid : decomposed (settingsOf 2 1000) between ≡ done (result (0 ∷ 1 ∷ 1 ∷ 0 ∷ 0 ∷ 1 ∷ []) 0 2 2 29 Verdict.Best)
 
 pub cases : Cases
-unfolding sumTo sumPairs sumOf upFrom anyOf countOf keep find settingsInRange pieceInRange hasArea overlapX overlapY gapX gapY squaredGap conflictEdge contact stitchEdge tied edgeOf overlapping conflictsOf stitchesOf scoreOf pairCost mayGo peelFor reachFor componentsFor partOf edgesBetween spread added totalAfter cheapest firstAfter different candidates tryMasks searchPlaces completeMasks completePlaces putMasks searchAll putBack putBackAll decompose completeAll complete run ascii digitsFor commaList line numberLines firstLine afterKey allDigits isNumeral valueAfter partsOf numbersOf lineNumbers lineOf pieceLines layerText maskLines resultText askEach judgePiece judgeOverlaps judgeLayer readLine readNumber readNumbers readHeader readPiece readPieces layerFrom readBody readLayer edgeBetween decomposeLayer decomposeText
+unfolding sumTo sumPairs sumOf upFrom anyOf countOf keep find settingsInRange pieceInRange hasArea overlapX overlapY gapX gapY squaredGap conflictEdge contact stitchEdge tied edgeOf overlapping conflictsOf stitchesOf scoreOf pairCost mayGo peelFor reachFor componentsFor partOf edgesBetween spread added totalAfter cheapest firstAfter firstMask different candidates candidatesIn tryMasks searchPlaces completeMasks completePlaces putMasks searchAll putBack putBackAll decompose completeAll complete run ascii digitsFor commaList line numberLines firstLine afterKey allDigits isNumeral valueAfter partsOf numbersOf lineNumbers lineOf pieceLines fixedLines layerText maskLines resultText askEach judgePiece judgeRecord judgeOverlaps judgeFixed judgeRecords judgeLayer readLine readNumber readNumbers readHeader readPiece readPieces readFixed readAllFixed layerFrom readBody readLayer edgeBetween decomposeLayer decomposeText
 cases = record {
   row-text = refl;
   row-2 = refl;

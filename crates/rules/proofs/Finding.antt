@@ -4,13 +4,13 @@ use mathlib.Core.Bool.{Bool, true, false, _&&_, _||_, or-true}
 use mathlib.Core.List.{List, [], _∷_}
 use mathlib.Core.Logic.{⊎-elim}
 use mathlib.Core.Option.{none, some}
-use mathlib.Core.Path.{_≡_, refl, _∙_}
+use mathlib.Core.Path.{_≡_, refl, sym, ap, _∙_}
 use Prim.Native.Nat.{ℕ, zero, suc, _+_, _≤_, _<_}
 use native.Mathlib.Omega.{arith}
 use lib.Dec.{eqb}
 use borrow.Author.Tests.{eqb-true, eqb-false}
-use Rattle.rules.specs.Basics.{upFrom, upTo, anyOf, keep, find, foundOr, without}
-use Rattle.rules.proofs.Lists.{_∈_, here, later, Same, any-in, in-any, in-upTo, without-in, without-or}
+use Rattle.rules.specs.Basics.{upFrom, upTo, anyOf, keep, find, without}
+use Rattle.rules.proofs.Lists.{_∈_, here, later, Same, any-in, in-any, any-out, any-snoc, in-upTo, upTo-snoc, without-in, without-or}
 use Rattle.rules.proofs.Tests.{by-test, clash, or-either, same}
 
 pub find-pass : (f : ℕ → Bool) (x : ℕ) (xs : List ℕ) → f x ≡ true → find f (x ∷ xs) ≡ some x
@@ -34,15 +34,6 @@ find-same f h (x ∷ xs) e =
     let r : find f xs ≡ find h xs = find-same f h xs (λ u m. e u (later m)) in
     let q : f x ≡ h x = e x (here refl) in
     by-test (h x) (λ d. cc) (λ d. cc)
-
--- where one passes, what is found is one of the list that passes
-pub find-one : (f : ℕ → Bool) (d : ℕ) (xs : List ℕ) → anyOf f xs ≡ true → (foundOr d (find f xs) ∈ xs) × (f (foundOr d (find f xs)) ≡ true)
-unfolding anyOf
-find-one f d [] e = clash e refl
-find-one f d (x ∷ xs) e =
-    by-test (f x)
-    (λ t. rw (find-pass f x xs t) (here refl, t))
-    (λ t. let r = find-one f d xs (rw t at e) in rw (find-fail f x xs t) (later (r .0), r .1))
 
 -- among those that pass another test
 pub find-keep : (f h : ℕ → Bool) (xs : List ℕ) → find h (keep f xs) ≡ find (λ u. f u && h u) xs
@@ -68,6 +59,16 @@ find-upTo f n r h before e = find-from f 0 n r (omega arith) (omega arith) (λ i
 
 pub find-none-upTo : (f : ℕ → Bool) (n : ℕ) → ((i : ℕ) → i < n → f i ≡ false) → find f (upTo n) ≡ none
 find-none-upTo f n h = find-nothing f (upTo n) (λ u m. h u (in-upTo n u .0 m))
+
+-- where one passes, the least that does
+pub least-upTo : (f : ℕ → Bool) (n : ℕ) → anyOf f (upTo n) ≡ true → (r : ℕ) × (r < n) × (f r ≡ true) × ((i : ℕ) → i < r → f i ≡ false)
+unfolding anyOf upFrom
+least-upTo f zero e = clash e refl
+least-upTo f (suc n) e =
+    let split : anyOf f (upTo (suc n)) ≡ (anyOf f (upTo n) || f n) = ap (anyOf f) (upTo-snoc n) ∙ any-snoc f (upTo n) n in
+    by-test (anyOf f (upTo n))
+    (λ t. let r = least-upTo f n t in (r .0, omega (arith, r .1), r .2, r .3))
+    (λ t. (n, omega arith, rw t at (sym split ∙ e), λ i l. any-out f (upTo n) t i (in-upTo n i .1 l)))
 
 -- ---- whether one passes
 

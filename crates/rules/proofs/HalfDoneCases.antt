@@ -11,7 +11,7 @@ use Rattle.rules.specs.Edges.{overlapX, overlapY, gapX, gapY, squaredGap
 use Rattle.rules.specs.Score.{conflictsOf, stitchesOf, scoreOf}
 use Rattle.rules.specs.Components.{reachFor, componentsFor}
 use Rattle.rules.specs.Units.{partOf}
-use Rattle.rules.specs.Questions.{Outcome, done, refused, askEach, judgePiece, judgeOverlaps, judgeLayer}
+use Rattle.rules.specs.Questions.{Outcome, done, refused, askEach, judgePiece, judgeRecord, judgeOverlaps, judgeFixed, judgeRecords, judgeLayer}
 use Rattle.rules.specs.Calls.{scoreMasks}
 use Rattle.rules.proofs.Cases.{settingsOf}
 use Rattle.rules.proofs.TieCases.{chain, twoStitches}
@@ -35,7 +35,7 @@ pub record HalfDoneCases : Type 0 where
   pub no-other-value : scored chain (255 ∷ 1 ∷ 255 ∷ 0 ∷ 254 ∷ []) ≡ refused 8 (Place.Piece 4)
 
 pub halfDoneCases : HalfDoneCases
-unfolding sumTo sumPairs upFrom anyOf keep find settingsInRange pieceInRange hasArea overlapX overlapY gapX gapY squaredGap conflictEdge contact stitchEdge tied overlapping conflictsOf stitchesOf scoreOf reachFor componentsFor partOf askEach judgePiece judgeOverlaps judgeLayer scoreMasks
+unfolding sumTo sumPairs upFrom anyOf keep find settingsInRange pieceInRange hasArea overlapX overlapY gapX gapY squaredGap conflictEdge contact stitchEdge tied overlapping conflictsOf stitchesOf scoreOf reachFor componentsFor partOf askEach judgePiece judgeRecord judgeOverlaps judgeFixed judgeRecords judgeLayer scoreMasks
 halfDoneCases = record {
   nothing-set = refl;
   some-set = refl;

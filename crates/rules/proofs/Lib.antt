@@ -2,6 +2,7 @@
 pub mod Cases
 pub mod TieCases
 pub mod HalfDoneCases
+pub mod FixedCases
 pub mod Examples
 pub mod Tests
 pub mod Lists
@@ -9,6 +10,7 @@ pub mod Sums
 pub mod ScoreBounds
 pub mod Outcomes
 pub mod Validity
+pub mod Unfixed
 pub mod Reading
 pub mod Calls
 pub mod Ranges

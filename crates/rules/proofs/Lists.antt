@@ -71,6 +71,12 @@ place-in [] i h = absurd (omega arith)
 place-in (x ∷ xs) zero h = here refl
 place-in (x ∷ xs) (suc i) h = later (place-in xs i (omega arith))
 
+-- what stands inside a list does not depend on the default
+pub default-same : (xs : List ℕ) (i d e : ℕ) → i < length xs → getD xs i d ≡ getD xs i e
+default-same [] i d e l = absurd (omega arith)
+default-same (x ∷ xs) zero d e l = refl
+default-same (x ∷ xs) (suc i) d e l = default-same xs i d e (omega arith)
+
 -- a property that all places have, where a number with it is put at one of them
 pub set-each : (P : ℕ → Type 0) (xs : List ℕ) (v m : ℕ) → P m → ((i : ℕ) → P (getD xs i 0)) → (i : ℕ) → P (getD (set xs v m) i 0)
 set-each P [] v m h f i = f i

@@ -15,9 +15,9 @@ use Rattle.rules.specs.Score.{conflictsOf, stitchesOf, scoreOf, pairCost
 use Rattle.rules.specs.Peeling.{mayGo, peelFor}
 use Rattle.rules.specs.Components.{reachFor, componentsFor}
 use Rattle.rules.specs.Units.{partOf, unitOf, edgesBetween, mergedGraph, spread}
-use Rattle.rules.specs.Search.{added, totalAfter, cheapest, firstAfter, different, candidates, tryMasks, searchPlaces}
+use Rattle.rules.specs.Search.{added, totalAfter, cheapest, firstAfter, firstMask, different, candidates, candidatesIn, tryMasks, searchPlaces}
 use Rattle.rules.specs.Decomposition.{putMasks, searchAll, putBack, putBackAll, decompose, run}
-use Rattle.rules.specs.Questions.{askEach, judgePiece, judgeOverlaps, judgeLayer, done, refused}
+use Rattle.rules.specs.Questions.{askEach, judgePiece, judgeRecord, judgeOverlaps, judgeFixed, judgeRecords, judgeLayer, done, refused}
 use Rattle.rules.specs.Calls.{edgeBetween, decomposeLayer, scoreMasks}
 use Rattle.rules.proofs.Cases.{settingsOf, piece, result, decomposed}
 
@@ -70,7 +70,7 @@ pub record TieCases : Type 0 where
   pub kept-together : scoreMasks (settingsOf 2 100) chain (1 ∷ 1 ∷ 1 ∷ 1 ∷ 0 ∷ []) ≡ done (record { score = record { conflicts = 3; stitches = 0; cost = 30 }; tested = 10 })
 
 pub tieCases : TieCases
-unfolding sumTo sumPairs sumOf upFrom anyOf countOf keep find settingsInRange pieceInRange hasArea overlapX overlapY gapX gapY squaredGap conflictEdge contact stitchEdge tied edgeOf overlapping conflictsOf stitchesOf scoreOf pairCost mayGo peelFor reachFor componentsFor partOf edgesBetween spread added totalAfter cheapest firstAfter different candidates tryMasks searchPlaces putMasks searchAll putBack putBackAll decompose run askEach judgePiece judgeOverlaps judgeLayer edgeBetween decomposeLayer scoreMasks
+unfolding sumTo sumPairs sumOf upFrom anyOf countOf keep find settingsInRange pieceInRange hasArea overlapX overlapY gapX gapY squaredGap conflictEdge contact stitchEdge tied edgeOf overlapping conflictsOf stitchesOf scoreOf pairCost mayGo peelFor reachFor componentsFor partOf edgesBetween spread added totalAfter cheapest firstAfter firstMask different candidates candidatesIn tryMasks searchPlaces putMasks searchAll putBack putBackAll decompose run askEach judgePiece judgeRecord judgeOverlaps judgeFixed judgeRecords judgeLayer edgeBetween decomposeLayer scoreMasks
 tieCases = record {
   chain-units = refl;
   chain-run = refl;

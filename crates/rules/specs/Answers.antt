@@ -34,6 +34,8 @@ refusalNumber Refusal.Record = 9
 refusalNumber Refusal.Rectangle = 10
 refusalNumber Refusal.Unit = 11
 refusalNumber Refusal.Split = 12
+refusalNumber Refusal.FixedRange = 13
+refusalNumber Refusal.FixedSplit = 14
 
 abbrev pub settingsAnswer : SettingsAnswer → Outcome Settings
 settingsAnswer (SettingsAnswer.Accepted s) = done s

@@ -58,6 +58,11 @@ abbrev pub foundOr : ℕ → Option ℕ → ℕ
 foundOr d none = d
 foundOr d (some x) = x
 
+-- f at what was found, or else d
+abbrev pub foundAt : (ℕ → ℕ) → ℕ → Option ℕ → ℕ
+foundAt f d none = d
+foundAt f d (some x) = f x
+
 -- whether x stands in the list
 abbrev pub occurs : ℕ → List ℕ → Bool
 occurs x xs = anyOf (eqb x) xs

@@ -13,7 +13,7 @@ use Rattle.rules.specs.declared.answers.Score.{Score}
 use Rattle.rules.specs.declared.answers.Scoring.{Scoring}
 use Rattle.rules.specs.declared.answers.Verdict.{Verdict}
 use Rattle.rules.specs.Basics.{given, sumPairs}
-use Rattle.rules.specs.Settings.{settingsInRange, pieceAt}
+use Rattle.rules.specs.Settings.{settingsInRange, pieceAt, fixedMasks}
 use Rattle.rules.specs.Edges.{squaredGap, contact, tied, edgeOf, graphOf}
 use Rattle.rules.specs.Score.{maskOf, sameMask, isSet, costOf, scoreOf, pairsOf}
 use Rattle.rules.specs.Decomposition.{Run, run, reached, completed, stepsInAll}
@@ -32,6 +32,11 @@ pub record Assignment (s : Settings) (ps : List Piece) (masks : List ℕ) : Type
 -- a list has every mask that another one has set
 abbrev pub Extends : ℕ → List ℕ → List ℕ → Type 0
 Extends n masks more = (i : ℕ) → i < n → isSet masks i ≡ true → maskOf more i ≡ maskOf masks i
+
+-- an assignment that keeps the fixed masks too: only such assignments are rivals of a run's
+pub record Feasible (s : Settings) (ps : List Piece) (masks : List ℕ) : Type 0 where
+  pub assignment : Assignment s ps masks
+  pub kept : Extends (length ps) (fixedMasks ps) masks
 
 -- masks that are half done: they can become an assignment by setting those that are not set; an assignment itself is half done with none missing
 pub record HalfDone (s : Settings) (ps : List Piece) (masks : List ℕ) : Type 0 where
@@ -54,8 +59,8 @@ pub record Demand1 : Type 0 where
   pub settings : (masks spacing margin weight budget : ℕ) → Ends (λ s. settingsInRange s ≡ true) OfSettings (newSettings masks spacing margin weight budget)
   pub edge : (s : Settings) (a b : Piece) → Ends (λ e. e ≡ edgeOf s a b) (OfRecords 2) (edgeBetween s a b)
   pub score : (s : Settings) (ps : List Piece) (masks : List ℕ) → Ends (λ r. r ≡ layerScoring s ps masks) (OfMasks (length ps)) (scoreMasks s ps masks)
-  -- a mask for every piece, marked best or open
-  pub decompose : (s : Settings) (ps : List Piece) (masks : List ℕ) → Ends (λ r. Assignment s ps (r .masks)) (OfMaskList (length ps)) (decomposeLayer s ps masks)
+  -- a mask for every piece, its fixed mask where it has one, marked best or open
+  pub decompose : (s : Settings) (ps : List Piece) (masks : List ℕ) → Ends (λ r. Feasible s ps (r .masks)) (OfMaskList (length ps)) (decomposeLayer s ps masks)
   pub read : (text : List ℕ) → Ends (λ l. Valid (l .settings) (l .pieces)) (OfText text) (readLayer text)
   pub stream : (settings stream : List ℕ) → Ends (λ l. Valid (l .settings) (l .pieces)) (OfStream settings stream) (readStream settings stream)
   -- what is written has room in the buffer
@@ -139,7 +144,8 @@ assignmentCost s ps masks = layerScore s ps masks .cost
 abbrev pub EndsWithin : Settings → List Piece → Type 0
 EndsWithin s ps = stepsInAll s ps ≤ s .budget
 
--- What holds of one run. Its masks and steps are those reached at its budget, its counts and cost are those of its masks, and every piece has a mask.
+-- What holds of one run. Its masks and steps are those reached at its budget, its counts and cost are those of its masks, and every piece has a mask, the fixed
+-- one where there is one.
 -- It says best exactly when the search ends within its budget. Its steps are those of the search without a budget, or the budget if that is less;
 -- and where the search ends, its masks are those that the search without a budget leaves.
 pub record OneRun (s : Settings) (ps : List Piece) (r : Run) : Type 0 where
@@ -148,7 +154,7 @@ pub record OneRun (s : Settings) (ps : List Piece) (r : Run) : Type 0 where
   pub conflicts : r .conflicts ≡ layerScore s ps (r .masks) .conflicts
   pub stitches : r .stitches ≡ layerScore s ps (r .masks) .stitches
   pub cost : r .cost ≡ assignmentCost s ps (r .masks)
-  pub whole : Assignment s ps (r .masks)
+  pub whole : Feasible s ps (r .masks)
   pub best : (r .verdict ≡ Verdict.Best) ↔ EndsWithin s ps
   pub spent : r .steps ≡ min (stepsInAll s ps) (s .budget)
   pub ended : EndsWithin s ps → r .masks ≡ completed s ps .masks
@@ -158,7 +164,7 @@ pub record Demand3 (s₁ s₂ : Settings) (ps : List Piece) (r₁ r₂ : Run) : 
   pub first : OneRun s₁ ps r₁
   pub second : OneRun s₂ ps r₂
   pub same : r₁ .verdict ≡ Verdict.Best → r₂ ≡ r₁
-  pub cheapest : r₁ .verdict ≡ Verdict.Best → (rival : List ℕ) → Assignment s₁ ps rival → r₁ .cost ≤ assignmentCost s₁ ps rival
+  pub cheapest : r₁ .verdict ≡ Verdict.Best → (rival : List ℕ) → Feasible s₁ ps rival → r₁ .cost ≤ assignmentCost s₁ ps rival
   pub noDearer : r₁ .verdict ≡ Verdict.Open → r₂ .cost ≤ r₁ .cost
 
 -- demand 3 of a run against the run at any budget that is no smaller

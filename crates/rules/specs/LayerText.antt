@@ -1,12 +1,13 @@
 -- The layer text (RULES 9), as a list of bytes.
-use mathlib.Core.Bool.{Bool}
+use mathlib.Core.Bool.{Bool, cond}
 use mathlib.Core.List.{List, [], _∷_, _++_, map}
-use Prim.Native.Nat.{ℕ}
+use Prim.Native.Nat.{ℕ, suc}
 use Prim.Native.String.{String}
+use lib.Dec.{eqb}
 use lib.ListN.{length}
 use Rattle.rules.specs.declared.layer.Settings.{Settings}
 use Rattle.rules.specs.declared.layer.Piece.{Piece}
-use Rattle.rules.specs.Settings.{masksInRange, spacingInRange, marginInRange, weightInRange, budgetInRange, countInRange}
+use Rattle.rules.specs.Settings.{masksInRange, spacingInRange, marginInRange, weightInRange, budgetInRange, countInRange, unset}
 use Rattle.rules.specs.Lines.{ascii, line, numberLines}
 
 -- a line with one number: its key, and the range of the number
@@ -45,5 +46,14 @@ unfoldable pub pieceLines : List Piece → List ℕ
 pieceLines [] = []
 pieceLines (p ∷ ps) = pieceLine p ++ pieceLines ps
 
+-- the line that fixes the mask of piece i, where it has a fixed one
+abbrev pub fixedLine : ℕ → Piece → List ℕ
+fixedLine i p = cond (eqb (p .fixed) unset) [] (line (ascii "fixed=") (i ∷ p .fixed ∷ []))
+
+-- these lines for the pieces from number i on
+unfoldable pub fixedLines : ℕ → List Piece → List ℕ
+fixedLines i [] = []
+fixedLines i (p ∷ ps) = fixedLine i p ++ fixedLines (suc i) ps
+
 unfoldable pub layerText : Settings → List Piece → List ℕ
-layerText s ps = numberLines headerKeys (headerNumbers s (length ps)) ++ pieceLines ps
+layerText s ps = numberLines headerKeys (headerNumbers s (length ps)) ++ pieceLines ps ++ fixedLines 0 ps

@@ -1,5 +1,5 @@
 -- The number that the job loader's call returns, and what the program `layer` prints (RULES 12).
-use mathlib.Core.Bool.{cond}
+use mathlib.Core.Bool.{cond, _||_}
 use mathlib.Core.List.{List, [], _∷_}
 use Prim.Native.Nat.{ℕ, _+_, _*_}
 use lib.Dec.{eqb}
@@ -23,7 +23,7 @@ loaderNumber (refused number place) = 10_000 * number + placeNumber place
 
 -- the place that a refusal of a text names, from its number and its place as a number
 abbrev pub placeFrom : ℕ → ℕ → Place
-placeFrom number k = cond (within 3 5 number) (Place.Line k) (cond (eqb number 6) (Place.Piece k) Place.Nothing)
+placeFrom number k = cond (within 3 5 number || eqb number 13) (Place.Line k) (cond (eqb number 6 || eqb number 14) (Place.Piece k) Place.Nothing)
 
 -- the result text, or a line that states the refusal
 abbrev pub printed : Outcome (List ℕ) → List ℕ

@@ -1,11 +1,13 @@
--- Peeling (RULES 4). `there` is the rising list of the vertices still there. Degrees count neighbours.
-use mathlib.Core.Bool.{Bool, _&&_, _||_, cond}
+-- Peeling (RULES 4). `there` is the rising list of the vertices still there. Degrees count neighbours. `fixed` gives the mask that a vertex must have, or `unset`
+-- where it may have any (RULES 18).
+use mathlib.Core.Bool.{Bool, not, _&&_, _||_, cond}
 use mathlib.Core.List.{List, [], _∷_}
 use mathlib.Core.Option.{none, some}
 use Prim.Native.Nat.{ℕ, zero, suc}
 use lib.Dec.{eqb, ltb}
 use lib.ListN.{length}
 use Rattle.rules.specs.Basics.{countOf, find, foundOr, without}
+use Rattle.rules.specs.Settings.{unset}
 use Rattle.rules.specs.Edges.{Graph, inConflict, inStitch}
 
 abbrev pub conflictDegree : Graph → List ℕ → ℕ → ℕ
@@ -22,8 +24,13 @@ lowDegree K g there v = eqb (stitchDegree g there v) 0 && ltb (conflictDegree g 
 abbrev pub isPendant : Graph → List ℕ → ℕ → Bool
 isPendant g there v = eqb (conflictDegree g there v) 0 && eqb (stitchDegree g there v) 1
 
-unfoldable pub mayGo : ℕ → Graph → List ℕ → ℕ → Bool
-mayGo K g there v = lowDegree K g there v || isPendant g there v
+-- whether a vertex must have a given mask
+abbrev pub isFixed : (ℕ → ℕ) → ℕ → Bool
+isFixed fixed v = not (eqb (fixed v) unset)
+
+-- a vertex with a fixed mask never goes
+unfoldable pub mayGo : ℕ → Graph → (ℕ → ℕ) → List ℕ → ℕ → Bool
+mayGo K g fixed there v = not (isFixed fixed v) && (lowDegree K g there v || isPendant g there v)
 
 -- a removed vertex: by (A), or by (B) with its stitch neighbour
 pub data Removal : Type 0 where
@@ -39,15 +46,15 @@ pub record Peeled : Type 0 where
   pub core : List ℕ
 
 -- In each round the lowest vertex that may go is removed, until none may go.
-unfoldable pub peelFor : ℕ → ℕ → Graph → List ℕ → Peeled
-peelFor zero K g there = record { removed = []; core = there }
-peelFor (suc rounds) K g there = elim (find (mayGo K g there) there) [
+unfoldable pub peelFor : ℕ → ℕ → Graph → (ℕ → ℕ) → List ℕ → Peeled
+peelFor zero K g fixed there = record { removed = []; core = there }
+peelFor (suc rounds) K g fixed there = elim (find (mayGo K g fixed there) there) [
   | none ↦ record { removed = []; core = there }
   | some v ↦
-      let rest = peelFor rounds K g (without v there) in
+      let rest = peelFor rounds K g fixed (without v there) in
       record { removed = removalOf K g there v ∷ rest .removed; core = rest .core }
 ]
 
 -- each round removes one, so as many rounds as vertices are enough
-abbrev pub peel : ℕ → Graph → List ℕ → Peeled
-peel K g there = peelFor (length there) K g there
+abbrev pub peel : ℕ → Graph → (ℕ → ℕ) → List ℕ → Peeled
+peel K g fixed there = peelFor (length there) K g fixed there

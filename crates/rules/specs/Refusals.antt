@@ -17,12 +17,14 @@ pub data Ends {A : Type 0} (P : A → Type 0) (R : ℕ → Place → Type 0) : O
 pub data OfSettings : ℕ → Place → Type 0 where
   setting : OfSettings 4 Place.Nothing
 
--- the refusals of settings and n lent records; the first piece overlaps no earlier one
+-- the refusals of settings and n lent records; the first piece overlaps no earlier one, and has no other fixed mask than an earlier one
 pub data OfRecords (n : ℕ) : ℕ → Place → Type 0 where
   settings-or-count : OfRecords n 4 Place.Nothing
   range : {i : ℕ} → i < n → OfRecords n 4 (Place.Piece i)
+  fixed-range : {i : ℕ} → i < n → OfRecords n 13 (Place.Piece i)
   area : {i : ℕ} → i < n → OfRecords n 5 (Place.Piece i)
   overlap : {i : ℕ} → 1 ≤ i → i < n → OfRecords n 6 (Place.Piece i)
+  fixed-split : {i : ℕ} → 1 ≤ i → i < n → OfRecords n 14 (Place.Piece i)
 
 -- the refusals of a decomposition: those of the records, then 7
 pub data OfMaskList (n : ℕ) : ℕ → Place → Type 0 where
@@ -39,11 +41,11 @@ pub data OfMasks (n : ℕ) : ℕ → Place → Type 0 where
 abbrev pub lineCount : List ℕ → ℕ
 lineCount text = countOf (λ b. eqb b newline) text
 
--- a line that a text has or that is the next one; a layer text has at most 518 lines
+-- a line that a text has or that is the next one; a layer text has at most 1,030 lines
 pub record LineOf (text : List ℕ) (lineNo : ℕ) : Type 0 where
   pub first : 1 ≤ lineNo
   pub next : lineNo ≤ lineCount text + 1
-  pub most : lineNo ≤ 519
+  pub most : lineNo ≤ 1_031
 
 -- the refusals of a layer text; piece i stands in line i + 7
 pub data OfText (text : List ℕ) : ℕ → Place → Type 0 where
@@ -51,7 +53,9 @@ pub data OfText (text : List ℕ) : ℕ → Place → Type 0 where
   form : {lineNo : ℕ} → LineOf text lineNo → OfText text 3 (Place.Line lineNo)
   range : {lineNo : ℕ} → LineOf text lineNo → OfText text 4 (Place.Line lineNo)
   area : {lineNo : ℕ} → LineOf text lineNo → OfText text 5 (Place.Line lineNo)
+  fixed-range : {lineNo : ℕ} → LineOf text lineNo → OfText text 13 (Place.Line lineNo)
   overlap : {i : ℕ} → 1 ≤ i → i + 7 ≤ lineCount text → i < 512 → OfText text 6 (Place.Piece i)
+  fixed-split : {i : ℕ} → 1 ≤ i → i + 7 ≤ lineCount text → i < 512 → OfText text 14 (Place.Piece i)
 
 -- a record that a stream has or that is the next one; records that pass have seven bytes on the average, or more, so a stream has less than 10,000
 pub record RecordOf (stream : List ℕ) (k : ℕ) : Type 0 where

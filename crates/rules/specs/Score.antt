@@ -6,6 +6,7 @@ use lib.Dec.{eqb}
 use lib.ListN.{getD}
 use Rattle.rules.specs.declared.answers.Score.{Score}
 use Rattle.rules.specs.Basics.{given, sumPairs}
+use Rattle.rules.specs.Settings.{unset}
 use Rattle.rules.specs.Edges.{Graph}
 
 abbrev pub maskOf : List ℕ → ℕ → ℕ
@@ -14,10 +15,7 @@ maskOf masks v = getD masks v 0
 abbrev pub sameMask : List ℕ → ℕ → ℕ → Bool
 sameMask masks u v = eqb (maskOf masks u) (maskOf masks v)
 
--- what stands in the place of a mask that is not set yet
-abbrev pub unset : ℕ
-unset = 255
-
+-- whether a vertex is set
 abbrev pub isSet : List ℕ → ℕ → Bool
 isSet masks v = not (eqb (maskOf masks v) unset)
 

@@ -1,13 +1,16 @@
 -- First assignment and branch-and-bound search (RULES 6), in one component. Its vertices stand in rising order, and the search sees only their places in it,
--- 0, 1, ... Masks so far are a list p: the mask of place i stands at i, and the next place is length p. `add p m` is the cost that mask m adds there.
+-- 0, 1, ... Masks so far are a list p: the mask of place i stands at i, and the next place is length p. `add p m` is the cost that mask m adds there. `fixed`
+-- gives the mask that a place must have, or `unset` where it may have any (RULES 18).
 use mathlib.Core.Bool.{Bool, true, false, not, cond}
-use mathlib.Core.List.{List, [], _∷_, _++_}
+use mathlib.Core.List.{List, [], _∷_, _++_, map}
 use Prim.Native.Nat.{ℕ, zero, suc, _+_, _-_, min}
 use lib.Dec.{ltb}
 use lib.ListN.{length, getD}
-use Rattle.rules.specs.Basics.{given, sumTo, upTo, occurs}
+use Rattle.rules.specs.Basics.{given, sumTo, upTo, anyOf, occurs}
+use Rattle.rules.specs.Settings.{unset}
 use Rattle.rules.specs.Edges.{Graph}
 use Rattle.rules.specs.Score.{pairCost}
+use Rattle.rules.specs.Peeling.{isFixed}
 
 -- the graph of a component's places
 abbrev pub localGraph : Graph → List ℕ → Graph
@@ -15,6 +18,10 @@ localGraph g order = record {
   conflicts = λ i j. g .conflicts (getD order i 0) (getD order j 0);
   stitches = λ i j. g .stitches (getD order i 0) (getD order j 0);
 }
+
+-- the fixed masks of a component's places
+abbrev pub localFixed : (ℕ → ℕ) → List ℕ → ℕ → ℕ
+localFixed fixed order i = getD (map fixed order) i unset
 
 -- what mask m adds at the next place, against the earlier places
 unfoldable pub added : ℕ → Graph → List ℕ → ℕ → ℕ
@@ -33,10 +40,14 @@ unfoldable pub cheapest : (ℕ → ℕ) → ℕ → ℕ
 cheapest f zero = zero
 cheapest f (suc k) = let b = cheapest f k in cond (ltb (f k) (f b)) k b
 
--- First assignment: each of the places left takes the mask that adds least.
-unfoldable pub firstAfter : (List ℕ → ℕ → ℕ) → ℕ → ℕ → List ℕ → List ℕ
-firstAfter add K zero p = p
-firstAfter add K (suc left) p = firstAfter add K left (p ++ (cheapest (add p) K ∷ []))
+-- First assignment: each of the places left takes the mask that is picked for it, after those before it.
+unfoldable pub firstAfter : (List ℕ → ℕ) → ℕ → List ℕ → List ℕ
+firstAfter pick zero p = p
+firstAfter pick (suc left) p = firstAfter pick left (p ++ (pick p ∷ []))
+
+-- picked is the fixed mask, or else the one that adds least
+unfoldable pub firstMask : (List ℕ → ℕ → ℕ) → ℕ → (ℕ → ℕ) → List ℕ → ℕ
+firstMask add K fixed p = cond (isFixed fixed (length p)) (fixed (length p)) (cheapest (add p) K)
 
 -- how many different masks are in p
 unfoldable pub different : List ℕ → ℕ
@@ -46,6 +57,13 @@ different (m ∷ p) = given (not (occurs m p)) 1 + different p
 -- the masks tried after p, in rising order: 0 to the lesser of the number of different masks in p and K - 1
 unfoldable pub candidates : ℕ → List ℕ → List ℕ
 candidates K p = upTo (suc (min (different p) (K - 1)))
+
+-- The masks tried after p in a component of k places: at a fixed place its mask only; where another place is fixed all K masks, since masks cannot be renamed
+-- there; else the candidates.
+unfoldable pub candidatesIn : ℕ → (ℕ → ℕ) → ℕ → List ℕ → List ℕ
+candidatesIn K fixed k p =
+    cond (isFixed fixed (length p)) (fixed (length p) ∷ [])
+    (cond (anyOf (isFixed fixed) (upTo k)) (upTo K) (candidates K p))
 
 -- Where a search stands: the steps taken, whether a step was due when the budget was used up, and the incumbent (document 01: the holder) with its cost.
 pub record State : Type 0 where
@@ -92,11 +110,11 @@ module _ (add : List ℕ → ℕ → ℕ) (cands : List ℕ → List ℕ) (budge
   searchPlaces (suc left) p c s = tryMasks add budget (searchPlaces left) (cands p) p c s
 
 -- The search of one component of k places, from its first assignment on, with the steps taken before it.
-abbrev pub searchFrom : ℕ → ℕ → ℕ → Graph → ℕ → ℕ → Bool → State
-searchFrom K weight budget g k steps stopped =
+abbrev pub searchFrom : ℕ → ℕ → ℕ → Graph → (ℕ → ℕ) → ℕ → ℕ → Bool → State
+searchFrom K weight budget g fixed k steps stopped =
     let add = added weight g in
-    let first = firstAfter add K k [] in
-    searchPlaces add (candidates K) budget k [] 0 (state steps stopped (total add first) first)
+    let first = firstAfter (firstMask add K fixed) k [] in
+    searchPlaces add (candidatesIn K fixed k) budget k [] 0 (state steps stopped (total add first) first)
 
 -- ---- The search without a budget
 
@@ -129,8 +147,8 @@ module _ (add : List ℕ → ℕ → ℕ) (cands : List ℕ → List ℕ) where
   completePlaces (suc left) p c s = completeMasks add (completePlaces left) (cands p) p c s
 
 -- The whole search of one component of k places, from its first assignment on.
-abbrev pub completeFrom : ℕ → ℕ → Graph → ℕ → Progress
-completeFrom K weight g k =
+abbrev pub completeFrom : ℕ → ℕ → Graph → (ℕ → ℕ) → ℕ → Progress
+completeFrom K weight g fixed k =
     let add = added weight g in
-    let first = firstAfter add K k [] in
-    completePlaces add (candidates K) k [] 0 (progress 0 (total add first) first)
+    let first = firstAfter (firstMask add K fixed) k [] in
+    completePlaces add (candidatesIn K fixed k) k [] 0 (progress 0 (total add first) first)

@@ -1,8 +1,8 @@
 -- Settings and pieces (RULES 1).
-use mathlib.Core.Bool.{Bool, _&&_}
-use mathlib.Core.List.{List}
+use mathlib.Core.Bool.{Bool, _&&_, _||_}
+use mathlib.Core.List.{List, map}
 use Prim.Native.Nat.{ℕ}
-use lib.Dec.{leb, ltb}
+use lib.Dec.{eqb, leb, ltb}
 use lib.ListN.{getD}
 use Rattle.rules.specs.declared.layer.Settings.{Settings}
 use Rattle.rules.specs.declared.layer.Piece.{Piece}
@@ -57,12 +57,25 @@ pieceInRange p =
 unfoldable pub hasArea : Piece → Bool
 hasArea p = ltb (p .x1) (p .x2) && ltb (p .y1) (p .y2)
 
+-- what stands in the place of a mask where there is none: as the fixed mask of a piece that may have any, and, where masks are scored, of a piece that is not
+-- set yet
+abbrev pub unset : ℕ
+unset = 255
+
+-- a fixed mask is one of the K masks, where there is one
+abbrev pub fixedInRange : ℕ → ℕ → Bool
+fixedInRange K m = eqb m unset || ltb m K
+
 abbrev pub noSettings : Settings
 noSettings = record { masks = 0; spacing = 0; margin = 0; weight = 0; budget = 0 }
 
 abbrev pub noPiece : Piece
-noPiece = record { shape = 0; x1 = 0; y1 = 0; x2 = 0; y2 = 0 }
+noPiece = record { shape = 0; x1 = 0; y1 = 0; x2 = 0; y2 = 0; fixed = 0 }
 
 -- the piece with number i, from 0
 abbrev pub pieceAt : List Piece → ℕ → Piece
 pieceAt ps i = getD ps i noPiece
+
+-- the fixed masks of all pieces
+abbrev pub fixedMasks : List Piece → List ℕ
+fixedMasks ps = map (λ (p : Piece). p .fixed) ps

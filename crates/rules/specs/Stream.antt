@@ -9,7 +9,7 @@ use Rattle.rules.specs.declared.layer.Settings.{Settings}
 use Rattle.rules.specs.declared.layer.Piece.{Piece}
 use Rattle.rules.specs.declared.refusal.Place.{Place}
 use Rattle.rules.specs.Basics.{anyOf}
-use Rattle.rules.specs.Settings.{within, countInRange}
+use Rattle.rules.specs.Settings.{within, countInRange, unset}
 use Rattle.rules.specs.Lines.{isNumeral, value}
 use Rattle.rules.specs.Questions.{Outcome, done, ask, andThen, askEach, judgePiece, judgeOverlaps, Layer, readHeader, isEmpty}
 
@@ -261,7 +261,7 @@ magnitude (negsuc n) = suc n
 abbrev pub anyNegative : Element → Bool
 anyNegative e = negative (e .corner .x) || negative (e .corner .y) || negative (e .opposite .x) || negative (e .opposite .y)
 
--- the piece that an element without negative coordinates states
+-- the piece that an element without negative coordinates states; a stream fixes no masks
 abbrev pub pieceOf : Element → Piece
 pieceOf e = record {
   shape = e .shape;
@@ -269,6 +269,7 @@ pieceOf e = record {
   y1 = min (magnitude (e .corner .y)) (magnitude (e .opposite .y));
   x2 = max (magnitude (e .corner .x)) (magnitude (e .opposite .x));
   y2 = max (magnitude (e .corner .y)) (magnitude (e .opposite .y));
+  fixed = unset;
 }
 
 abbrev pub noElement : Element

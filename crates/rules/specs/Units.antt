@@ -7,8 +7,8 @@ use lib.Dec.{eqb}
 use lib.ListN.{length, getD}
 use Rattle.rules.specs.declared.layer.Settings.{Settings}
 use Rattle.rules.specs.declared.layer.Piece.{Piece}
-use Rattle.rules.specs.Basics.{given, sumOf, upTo, keep, find, foundOr, occurs}
-use Rattle.rules.specs.Settings.{pieceAt}
+use Rattle.rules.specs.Basics.{given, sumOf, upTo, keep, find, foundOr, foundAt, occurs}
+use Rattle.rules.specs.Settings.{unset, pieceAt}
 use Rattle.rules.specs.Edges.{tied, Graph}
 use Rattle.rules.specs.Score.{maskOf, sameMask, isSet}
 use Rattle.rules.specs.Components.{components}
@@ -63,11 +63,15 @@ mergedGraph unit n g = record {
 unfoldable pub spread : (ℕ → ℕ) → ℕ → List ℕ → List ℕ
 spread unit n masks = map (λ i. maskOf masks (unit i)) (upTo n)
 
--- ---- Masks that are set by hand
+-- ---- Masks that are set by hand, and fixed masks
 
 -- the lowest set vertex of unit u, or u where none is set
 abbrev pub lowestSet : (ℕ → ℕ) → ℕ → List ℕ → ℕ → ℕ
 lowestSet unit n masks u = foundOr u (find (λ i. isSet masks i && eqb (unit i) u) (upTo n))
+
+-- the fixed mask of unit u: that of its lowest piece with one, or `unset` where none has one (RULES 18)
+abbrev pub unitFixed : (ℕ → ℕ) → ℕ → List ℕ → ℕ → ℕ
+unitFixed unit n fixed u = foundAt (maskOf fixed) unset (find (λ i. isSet fixed i && eqb (unit i) u) (upTo n))
 
 -- whether vertex i is not set, or has the mask of the lowest set vertex of its unit
 abbrev pub fitsUnit : (ℕ → ℕ) → ℕ → List ℕ → ℕ → Bool

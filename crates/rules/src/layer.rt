@@ -98,13 +98,14 @@ pub fn in_limits(least: u32, greatest: u32, x: u32) -> bool
     least <= x && x <= greatest
 }
 
-// A rectangle, and which shape it belongs to.
+// A rectangle, which shape it belongs to, and the mask that the designer has fixed for it, `UNSET` where none is.
 pub struct Piece {
     pub shape: u32,
     pub x1: u32,
     pub y1: u32,
     pub x2: u32,
     pub y2: u32,
+    pub fixed: u8,
 }
 
 impl Piece {
@@ -114,7 +115,8 @@ impl Piece {
 
     pub const COUNT_GREATEST: usize = 512;
 
-    // Where masks are scored, it stands for the mask of a piece that is not set yet (RULES 3).
+    // What stands in the place of a mask where there is none: as the fixed mask of a piece that may have any (RULES 18), and, where masks
+    // are scored, of a piece that is not set yet (RULES 3).
     pub const UNSET: u8 = 255;
 }
 

@@ -17,6 +17,8 @@ pub enum Refusal {
     Rectangle,
     Unit,
     Split,
+    FixedRange,
+    FixedSplit,
 }
 
 impl Refusal {
@@ -37,6 +39,8 @@ impl Refusal {
             Refusal::Rectangle => 10,
             Refusal::Unit => 11,
             Refusal::Split => 12,
+            Refusal::FixedRange => 13,
+            Refusal::FixedSplit => 14,
         }
     }
 }

@@ -17,7 +17,8 @@ use Rattle.rules.specs.Answers.{scoreAnswer}
 use Rattle.rules.specs.Calls.{scoreMasks}
 use Rattle.rules.specs.Edges.{graphOf}
 use Rattle.rules.specs.Questions.{Outcome, done, ask, andThen, askEach, Valid, judgeLayer, readLayer}
-use Rattle.rules.specs.Score.{unset, scoreOf, pairsOf}
+use Rattle.rules.specs.Settings.{unset}
+use Rattle.rules.specs.Score.{scoreOf, pairsOf}
 use Rattle.rules.specs.Units.{unitOf, fitsUnit}
 use Rattle.rules.proofs.Outcomes.{accepted, ends-ask, ends-each, each-ext, ask-yes, then-same}
 use Rattle.rules.proofs.Ranges.{within-facts, settings-facts}

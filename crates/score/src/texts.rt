@@ -7,7 +7,7 @@ use crate::masks::read_masks;
 use rules::ReadAnswer;
 use rules::ScoreAnswer;
 
-// Refusals 2 to 6 are those of the layer text, 7, 8 and 12 those of the masks.
+// Refusals 2 to 6, 13 and 14 are those of the layer text, 7, 8 and 12 those of the masks.
 fn score_layer(layer: &[u8], masks: &[u8]) -> ScoreAnswer
     ensures { λ r. ⌜ scoreAnswer r ≡ scoreText (now (layer .entry)) (now (masks .entry)) ⌝ }
 {
@@ -18,8 +18,9 @@ fn score_layer(layer: &[u8], masks: &[u8]) -> ScoreAnswer
     }
     let pieces = read.pieces;
     let mut flat = [0u32; 2560];
-    layout::flatten(pieces, read.count, &mut flat);
-    scoring::score_flat(read.settings, &flat, read.count, masks)
+    let mut fixed = [0u8; 512];
+    layout::flatten(pieces, read.count, &mut flat, &mut fixed);
+    scoring::score_flat(read.settings, &flat, &fixed, read.count, masks)
 }
 
 // What scoring answers, or the first line, from 1, that is no mask line.

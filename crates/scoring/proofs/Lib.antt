@@ -1,5 +1,3 @@
--- What the functions' proofs cite, and other crates may: laws of a row of edges, of pairs of pieces, of the score of adjacency words, and of the masks noted of units.
-pub mod RowLaws
+-- What the functions' proofs cite: laws of pairs of pieces, and of the questions of given masks.
 pub mod PairLaws
-pub mod ScoreLaws
-pub mod UnitMaskLaws
+pub mod QuestionLaws

@@ -16,7 +16,8 @@ use Rattle.layout.specs.Flat.{pieceOf, piecesOf}
 use Rattle.adjacency.specs.Kinds.{isSome, isConflict, isStitch}
 use Rattle.scoring.specs.declared.pairs.Counts.{Counts}
 use Rattle.scoring.specs.declared.pairs.Tally.{Tally}
-use Rattle.scoring.specs.ScoreWords.{oneMask, twoMasks, scoringOf}
+use Rattle.counting.specs.Counted.{oneMask, twoMasks}
+use Rattle.scoring.specs.MaskQuestions.{scoringOf}
 use Rattle.scoring.specs.PairTests.{conflictBy, stitchBy, countsWith, conflictAt, stitchAt, tallied}
 use Rattle.rules.proofs.ScoreBounds.{given-le, given-nothing, conflicts-small, stitches-small}
 use Rattle.rules.proofs.Sums.{pairs-ext}

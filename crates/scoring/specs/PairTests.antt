@@ -10,7 +10,7 @@ use Rattle.rules.specs.Score.{maskOf, costOf}
 use Rattle.layout.specs.Flat.{pieceOf}
 use Rattle.scoring.specs.declared.pairs.Counts.{Counts}
 use Rattle.scoring.specs.declared.pairs.Tally.{Tally}
-use Rattle.scoring.specs.ScoreWords.{oneMask, twoMasks}
+use Rattle.counting.specs.Counted.{oneMask, twoMasks}
 
 -- 1 where an edge is a conflict between ends with these masks
 abbrev pub conflictBy : Edge → ℕ → ℕ → ℕ

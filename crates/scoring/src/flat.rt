@@ -5,15 +5,14 @@ ghost use lib.ListN.{length};
 ghost use Rattle.rules.specs.Answers.{scoreAnswer};
 ghost use Rattle.rules.specs.Calls.{scoreMasks};
 ghost use Rattle.rules.specs.Questions.{askEach, Valid};
-ghost use Rattle.layout.specs.Flat.{piecesOf};
+ghost use Rattle.layout.specs.Flat.{piecesOf, recordsOf};
 ghost use Rattle.layout.specs.Judged.{judgement};
 ghost use Rattle.adjacency.specs.UnitGraph.{unitAt};
-ghost use Rattle.scoring.specs.ScoreWords.{allowedMask, maskQuestion, unitQuestion, unitsScored};
+ghost use Rattle.scoring.specs.MaskQuestions.{allowedMask, maskQuestion, unitQuestion, unitsScored};
 ghost use Rattle.scoring.specs.PairTests.{tallied};
-ghost use Rattle.scoring.specs.UnitMasks.{fitsNoted, notedAfter};
-use crate::counting::cost_of;
 use crate::pairs::Tally;
 use crate::pairs::test_pairs;
+use counting::cost_of;
 use layout::Judgement;
 use rules::Piece;
 use rules::Place;
@@ -45,34 +44,16 @@ fn judge_masks(limit: u32, masks: &[u8]) -> Judgement
     Judgement::Passed
 }
 
-// Whether a mask goes with the one that is noted of its unit. Where none is noted yet it does, and is noted.
-fn fits_noted(noted: &mut [u8; 512], unit: usize, mask: u8) -> bool
-    requires { ⌜ unit < 512 ⌝ }
-    ensures { λ r. ⌜ r ≡ fitsNoted (now (noted .entry)) unit mask ⌝ }
-    ensures { λ _. ⌜ now (noted .exit) ≡ notedAfter (now (noted .entry)) unit mask ⌝ }
-{
-    let all: &mut [u8] = noted;
-    let known = all[unit];
-    if known == Piece::UNSET {
-        all[unit] = mask;
-        return true;
-    }
-    mask == Piece::UNSET || mask == known
-}
-
-// Question 12: each set piece has the mask of its unit's lowest set piece, which is noted where it is met.
+// Question 12: each set piece has the mask of its unit's lowest set piece.
 fn judge_units(units: &[u16; 512], masks: &[u8]) -> Judgement
     requires { ⌜ length (now masks) ≤ 512 ⌝ }
     requires { ⌜ ((i : ℕ) → i < length (now masks) → unitAt (now units) i < length (now masks)) ⌝ }
     ensures { λ r. ⌜ judgement r ≡ askEach (unitQuestion (unitAt (now (units .entry))) (length (now (masks .entry))) (now (masks .entry))) (length (now (masks .entry))) ⌝ }
 {
     let mut noted = [Piece::UNSET; 512];
-    let mut i = 0;
-    while i < masks.len() {
-        if !fits_noted(&mut noted, units[i] as usize, masks[i]) {
-            return Judgement::Refused(Refusal::Split, Place::Piece(i as u32));
-        }
-        i += 1;
+    let first = units::note_masks(units, masks, &mut noted);
+    if first < masks.len() {
+        return Judgement::Refused(Refusal::Split, Place::Piece(first as u32));
     }
     Judgement::Passed
 }
@@ -111,11 +92,17 @@ fn score_units(settings: Settings, flat: &[u32; 2560], n: usize, masks: &[u8]) -
     ScoreAnswer::Scored(scoring_of(settings.weight, tally))
 }
 
-// The score of any masks on any pieces, with the number of pairs tested, or the first of the refusals 4 to 8 and 12.
-pub fn score_flat(settings: Settings, flat: &[u32; 2560], n: usize, masks: &[u8]) -> ScoreAnswer
-    ensures { λ r. ⌜ scoreAnswer r ≡ scoreMasks settings (piecesOf (now (flat .entry)) n) (now (masks .entry)) ⌝ }
+// The score of any masks on any pieces, with the number of pairs tested, or the first of the refusals 4 to 6, 13, 14, 7, 8 and 12.
+pub fn score_flat(
+    settings: Settings,
+    flat: &[u32; 2560],
+    fixed: &[u8; 512],
+    n: usize,
+    masks: &[u8],
+) -> ScoreAnswer
+    ensures { λ r. ⌜ scoreAnswer r ≡ scoreMasks settings (recordsOf (now (flat .entry)) (now (fixed .entry)) n) (now (masks .entry)) ⌝ }
 {
-    let layer = layout::judge(settings, flat, n);
+    let layer = fixed_masks::judge(settings, flat, fixed, n);
     if let Judgement::Refused(refusal, place) = layer {
         return ScoreAnswer::Refused(refusal, place);
     }

@@ -1,36 +1,54 @@
 -- The search of a component begins at place 0, with the first assignment as the incumbent. Assumes nothing.
+use mathlib.Core.Bool.{Bool, true, false}
 use mathlib.Core.List.{List, []}
-use mathlib.Core.Path.{_≡_, refl, sym, ap, subst, subst⁻¹, _∙_}
+use mathlib.Core.Logic.{_⊎_, inl, inr, ⊎-elim}
+use mathlib.Core.Path.{_≡_, sym, ap, subst, subst⁻¹, _∙_}
 use Prim.Native.Nat.{ℕ, _-_, _≤_}
 use native.Mathlib.Omega.{arith}
 use lib.ListN.{length, getD, take, set, length-set}
 use lib.Seq.{getD-set-same, getD-set-other}
 use borrow.Author.Tests.{le-ltb}
-use Rattle.rules.specs.Basics.{anyOf}
-use Rattle.rules.specs.Search.{different, firstAfter, total}
+use Rattle.rules.specs.Basics.{upTo, anyOf}
+use Rattle.rules.specs.Settings.{unset}
+use Rattle.rules.specs.Peeling.{isFixed}
+use Rattle.rules.specs.Search.{different, firstAfter, firstMask, total}
 use Rattle.places.specs.Local.{localAdded}
-use Rattle.search.specs.Branch.{sizeIn, masksIn, weightIn, stateIn, placesFrom, Ready, Placed}
-use Rattle.search.specs.First.{FirstOf}
-use Rattle.search.specs.Weights.{weightOf, Weights}
+use Rattle.search.specs.Branch.{sizeIn, masksIn, weightIn, fixedIn, anyFixed, stateIn, placesFrom, Used, renamed, every, Ready, Placed}
+use Rattle.search.specs.First.{FixedLow, FirstOf}
+use Rattle.search.specs.Weights.{weightOf, fixedBehind, Weights, WithFixed}
 use Rattle.search.specs.Component.{searchLocal, Posed, Searched}
-use Rattle.search.proofs.Tables.{weight-of}
+use Rattle.search.proofs.Tables.{weight-of, behind-length}
 
 -- a first assignment by the table's weight
-pub first-by : {K weight : ℕ} {table starts list : List ℕ} {n : ℕ} {partial : List ℕ} {c : ℕ} → Weights table weight → FirstOf K (weightOf table) starts list n partial c
-    → FirstOf K weight starts list n partial c
-first-by {K} {weight} {table} {starts} {list} {n} {partial} {c} w first = subst (λ (x : ℕ). FirstOf K x starts list n partial c) (weight-of w) first
+pub first-by : {K weight : ℕ} {table starts list : List ℕ} {fixed : ℕ → ℕ} {n : ℕ} {partial : List ℕ} {c : ℕ} → Weights table weight → FirstOf K (weightOf table) starts list fixed n partial c
+    → FirstOf K weight starts list fixed n partial c
+first-by {K} {weight} {table} {starts} {list} {fixed} {n} {partial} {c} w first = subst (λ (x : ℕ). FirstOf K x starts list fixed n partial c) (weight-of w) first
 
-module _ {starts list numbers : List ℕ} {left : ℕ} (posed : Posed starts list numbers left) (c : ℕ) where
+-- before the first place no mask is in use, or all are taken to be
+used-none : {K : ℕ} {someFixed : Bool} {u : ℕ} → ((someFixed ≡ true) × (u ≡ K)) ⊎ ((someFixed ≡ false) × (u ≡ 0)) → Used K someFixed [] u
+unfolding different anyOf
+used-none (inl h) = every (h .0) (h .1)
+used-none {u = u} (inr h) = renamed (h .0) (sym (h .1)) (λ m. sym (le-ltb m u (omega (arith, h .1))))
+
+-- the fixed masks of the places stand behind the weights
+module _ {starts list fixed numbers table : List ℕ} {left : ℕ} (posed : Posed starts list fixed numbers left) (noted : WithFixed (weightIn numbers) fixed (sizeIn numbers) table) (c : ℕ) where
+  abbrev behind : List ℕ
+  behind = fixedBehind table
+
+  fixed-same : fixedIn behind numbers ≡ fixedIn fixed numbers
+  fixed-same = λ j i. getD (noted .behind j) i unset
+
   -- the incumbent's cost is stored; the other numbers stay
   other : (i : ℕ) → 1 ≤ i → getD (set numbers 0 c) i 0 ≡ getD numbers i 0
   other i h = getD-set-other numbers 0 i c 0 (λ e. omega arith)
 
-  pub weights-first : {table : List ℕ} → Weights table (weightIn numbers) → Weights table (weightIn (set numbers 0 c))
-  weights-first {table} w = subst⁻¹ (Weights table) (other 4 (omega arith)) w
+  pub weights-first : Weights table (weightIn (set numbers 0 c))
+  weights-first = subst⁻¹ (Weights table) (other 4 (omega arith)) (noted .weights)
 
-  pub ready-first : (partial : List ℕ) → length partial ≡ 512 → Ready starts list partial (set numbers 0 c) 0 0 0 left
-  unfolding different anyOf
-  ready-first partial whole =
+  pub ready-first : (partial : List ℕ) → length partial ≡ 512 → (u : ℕ)
+      → ((anyFixed fixed numbers ≡ true) × (u ≡ masksIn (set numbers 0 c))) ⊎ ((anyFixed fixed numbers ≡ false) × (u ≡ 0))
+      → Ready starts list behind partial (set numbers 0 c) 0 0 u left
+  ready-first partial whole u w =
       let size = other 2 (omega arith) in
       let masks = other 3 (omega arith) in
       record {
@@ -39,27 +57,29 @@ module _ {starts list numbers : List ℕ} {left : ℕ} (posed : Posed starts lis
         masks = omega (arith, posed .masks);
         weight = omega (arith, posed .weight, other 4 (omega arith));
         lists = λ k h. posed .lists k (omega arith);
+        fixed-low = rw (size, masks) (subst⁻¹ (λ (f : ℕ → ℕ). FixedLow f (sizeIn numbers) (masksIn numbers)) fixed-same (posed .fixed-low));
+        fixed-whole = behind-length (noted .weights);
         whole = whole;
         numbered = simp length-set (posed .numbered);
         at = omega arith;
         cheap = omega arith;
-        within = omega arith;
-        count = refl;
-        below = λ m. sym (le-ltb m 0 (omega arith));
+        low = λ i h. absurd (omega arith);
+        within = ⊎-elim (λ h. omega (arith, h .1)) (λ h. omega (arith, h .1)) w;
+        used = rw size (subst⁻¹ (λ (f : ℕ → ℕ). Used (masksIn (set numbers 0 c)) (anyOf (isFixed f) (upTo (sizeIn numbers))) [] u) fixed-same (used-none w));
         afford = omega (arith, posed .afford, other 5 (omega arith));
       }
 
-  module _ {partial : List ℕ} (first : FirstOf (masksIn numbers) (weightIn numbers) starts list (sizeIn numbers) partial c) where
-    starts-there : placesFrom starts list (set numbers 0 c) 0 (take 0 partial) 0 (stateIn partial (set numbers 0 c) left) ≡ searchLocal starts list numbers left
+  module _ {partial : List ℕ} (first : FirstOf (masksIn numbers) (weightIn numbers) starts list (fixedIn fixed numbers) (sizeIn numbers) partial c) where
+    starts-there : placesFrom starts list behind (set numbers 0 c) 0 (take 0 partial) 0 (stateIn partial (set numbers 0 c) left) ≡ searchLocal starts list fixed numbers left
     starts-there =
         let add = localAdded (weightIn numbers) starts list in
-        let cost : getD (set numbers 0 c) 0 0 ≡ total add (firstAfter add (masksIn numbers) (sizeIn numbers) [])
+        let cost : getD (set numbers 0 c) 0 0 ≡ total add (firstAfter (firstMask add (masksIn numbers) (fixedIn fixed numbers)) (sizeIn numbers) [])
         = getD-set-same numbers 0 c 0 (omega (arith, posed .numbered)) ∙ first .cost ∙ ap (total add) (first .masks) in
         let all : sizeIn numbers - 0 ≡ sizeIn numbers = omega arith in
-        rw (cost, other 1 (omega arith), other 2 (omega arith), other 3 (omega arith), other 4 (omega arith), other 5 (omega arith), all, first .masks)
+        rw (cost, other 1 (omega arith), other 2 (omega arith), other 3 (omega arith), other 4 (omega arith), other 5 (omega arith), all, fixed-same, first .masks)
 
-    pub searched-first : {partial′ incumbent′ numbers′ : List ℕ} {left′ : ℕ} → Placed starts list partial partial′ partial incumbent′ (set numbers 0 c) numbers′ 0 0 left left′
-        → Searched starts list incumbent′ numbers numbers′ left left′
+    pub searched-first : {partial′ incumbent′ numbers′ : List ℕ} {left′ : ℕ} → Placed starts list behind partial partial′ partial incumbent′ (set numbers 0 c) numbers′ 0 0 left left′
+        → Searched starts list fixed incumbent′ numbers numbers′ left left′
     searched-first placed = record {
       searched = placed .searched ∙ starts-there;
       numbered = placed .kept .numbered;

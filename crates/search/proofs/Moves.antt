@@ -1,27 +1,26 @@
 -- What each way through the search's two functions does to its state, over plain values: the functions' proofs hand these what the code gives.
 -- Assumes nothing.
-use mathlib.Core.Bool.{Bool, true, _||_}
+use mathlib.Core.Bool.{Bool, true}
 use mathlib.Core.List.{List, [], _∷_, _++_}
-use mathlib.Core.Logic.{_⊎_, ⊎-elim}
-use mathlib.Core.Path.{_≡_, refl, sym, ap, ap₂, subst⁻¹, _∙_}
-use Prim.Native.Nat.{ℕ, suc, _+_, _-_, _≤_, _<_, min}
+use mathlib.Core.Logic.{_⊎_, ⊎-elim, by-cases}
+use mathlib.Core.Path.{_≡_, refl, sym, ap, ap₂, subst, subst⁻¹, _∙_}
+use Prim.Native.Nat.{ℕ, suc, _+_, _-_, _≤_, _<_}
+use native.Mathlib.Decide.{ℕ-discrete}
 use native.Mathlib.Numerals.{add-one}
 use native.Mathlib.Omega.{arith}
-use lib.Dec.{eqb, ltb}
+use lib.Dec.{eqb}
 use lib.ListN.{length, getD, take, set, length-set}
 use lib.Seq.{take-take, take-set-le, take-suc-set, getD-take, getD-set-same, getD-set-other, length-take-le}
-use borrow.Author.Tests.{lt-ltb, le-ltb, ltb-true, eq-eqb, ne-eqb}
-use Rattle.rules.specs.Basics.{upFrom, occurs}
-use Rattle.rules.specs.Search.{different, candidates, State, state, step, tryMasks, searchPlaces}
-use Rattle.rules.proofs.Lists.{any-snoc, occurs-in, place-in}
-use Rattle.rules.proofs.Tests.{lt-or-ge}
-use Rattle.theory.proofs.Renaming.{different-snoc}
+use borrow.Author.Tests.{eq-eqb}
+use Rattle.rules.specs.Basics.{upFrom}
+use Rattle.rules.specs.Search.{candidatesIn, State, state, step, tryMasks, searchPlaces}
 use Rattle.theory.proofs.Search.{at-stop, at-enter, at-skip}
 use Rattle.places.specs.Local.{localAdded, PlaceLists}
-use Rattle.search.specs.Branch.{sizeIn, masksIn, weightIn, budgetIn, triedIn, stateIn, placesFrom, Ready, RowOf, Kept, Placed, Masked}
+use Rattle.search.specs.Branch.{sizeIn, masksIn, weightIn, budgetIn, fixedIn, triedIn, stateIn, placesFrom, Ready, RowOf, Kept, Placed, Masked}
 use Rattle.search.specs.Weights.{weightOf, Weights}
 use Rattle.search.proofs.Rows.{added-most}
 use Rattle.search.proofs.Tables.{weight-of}
+use Rattle.search.proofs.FixedPlaces.{used-next}
 
 -- ---- Lists of masks
 
@@ -29,44 +28,20 @@ use Rattle.search.proofs.Tables.{weight-of}
 pub take-stored : (l : List ℕ) (p m : ℕ) → p < length l → take (p + 1) (set l p m) ≡ take p l ++ (m ∷ [])
 take-stored l p m h = rw (add-one, take-suc-set l p m h)
 
+pub stored-low : (l : List ℕ) (p m : ℕ) → p < length l → m < 8 → ((i : ℕ) → i < p → getD l i 0 < 8) → (i : ℕ) → i < p + 1 → getD (set l p m) i 0 < 8
+stored-low l p m h k low i b = by-cases (ℕ-discrete p i)
+    (λ q. subst (λ (x : ℕ). getD (set l p m) x 0 < 8) q (omega (arith, getD-set-same l p m 0 h)))
+    (λ n. omega (arith, getD-set-other l p i m 0 (λ q. n (sym q)), low i (omega arith)))
+
 take-shorter : (l k : List ℕ) (p : ℕ) → take (p + 1) l ≡ take (p + 1) k → take p l ≡ take p k
 take-shorter l k p e = sym (take-take p (p + 1) l (omega arith)) ∙ ap (take p) e ∙ take-take p (p + 1) k (omega arith)
 
--- one mask more, at most u
-below-next : (u m v x : ℕ) → ((m < u) × (v ≡ u)) ⊎ ((m ≡ u) × (v ≡ u + 1)) → (ltb x u || eqb x m) ≡ ltb x v
-below-next u m v x w =
-    ⊎-elim
-    (λ l. ⊎-elim
-    (λ b. rw (lt-ltb x u b, lt-ltb x v l))
-    (λ b. rw (le-ltb x u b, lt-ltb x v l) (eq-eqb x m (⊎-elim (λ q. absurd (omega (arith, q .1))) (λ q. omega (arith, q .0, q .1)) w)))
-    (lt-or-ge x u))
-    (λ l. rw (
-      le-ltb x u (⊎-elim (λ q. omega (arith, q .1)) (λ q. omega (arith, q .1)) w),
-      le-ltb x v l,
-      ne-eqb x m (λ z. ⊎-elim (λ q. omega (arith, q .0, q .1)) (λ q. omega (arith, q .0, q .1)) w),
-    ))
-    (lt-or-ge x v)
-
-count-next : (q : List ℕ) (u m v : ℕ) → different q ≡ u → ((x : ℕ) → occurs x q ≡ ltb x u) → ((m < u) × (v ≡ u)) ⊎ ((m ≡ u) × (v ≡ u + 1)) → different (q ++ (m ∷ [])) ≡ v
-count-next q u m v e b w = ⊎-elim
-    (λ h. different-snoc q m ∙ rw (b m ∙ lt-ltb m u (h .0)) (omega (arith, h .1)))
-    (λ h. different-snoc q m ∙ rw (b m ∙ le-ltb m u (omega (arith, h .0))) (omega (arith, h .1)))
-    w
-
 -- ---- When the next call may be made
 
-module _ {starts list partial numbers : List ℕ} {p c u left : ℕ} (ready : Ready starts list partial numbers p c u left) where
-  -- the masks before p are masks
-  pub ready-masks : (i : ℕ) → i < p → getD partial i 0 < 8
-  ready-masks i h =
-      let size : length (take p partial) ≡ p = length-take-le p partial (omega (arith, ready .at, ready .few, ready .whole)) in
-      let there = occurs-in _ (take p partial) .1 (place-in (take p partial) i (omega arith)) in
-      let low = ltb-true _ u (sym (ready .below (getD (take p partial) i 0)) ∙ there) in
-      omega (arith, low, getD-take p partial i 0 h, ready .within, ready .masks)
-
+module _ {starts list fixed partial numbers : List ℕ} {p c u left : ℕ} (ready : Ready starts list fixed partial numbers p c u left) where
   -- a mask is stored at p, and costs what the row says
   pub ready-next : (m r v : ℕ) → p < sizeIn numbers → r ≤ 131_715_584 → ((m < u) × (v ≡ u)) ⊎ ((m ≡ u) × (v ≡ u + 1)) → m < masksIn numbers → 1 ≤ left
-      → Ready starts list (set partial p m) numbers (p + 1) (c + r) v (left - 1)
+      → Ready starts list fixed (set partial p m) numbers (p + 1) (c + r) v (left - 1)
   ready-next m r v h small w l more =
       let stored = take-stored partial p m (omega (arith, ready .whole, ready .few)) in
       record {
@@ -75,18 +50,20 @@ module _ {starts list partial numbers : List ℕ} {p c u left : ℕ} (ready : Re
         masks = ready .masks;
         weight = ready .weight;
         lists = ready .lists;
+        fixed-low = ready .fixed-low;
+        fixed-whole = ready .fixed-whole;
         whole = simp length-set (ready .whole);
         numbered = ready .numbered;
         at = omega arith;
         cheap = omega (arith, ready .cheap);
+        low = stored-low partial p m (omega (arith, ready .whole, ready .few)) (omega (arith, ready .masks)) (ready .low);
         within = ⊎-elim (λ q. omega (arith, q .1, ready .within)) (λ q. omega (arith, q .0, q .1)) w;
-        count = ap different stored ∙ count-next (take p partial) u m v (ready .count) (ready .below) w;
-        below = λ x. ap (occurs x) stored ∙ any-snoc (eqb x) (take p partial) m ∙ ap (λ (b : Bool). b || eqb x m) (ready .below x) ∙ below-next u m v x w;
+        used = rw stored (used-next (ready .used) m v l w);
         afford = omega (arith, ready .afford);
       }
 
   -- after a call that left it so
-  pub ready-same : {partial′ numbers′ : List ℕ} {left′ : ℕ} → Kept partial partial′ numbers numbers′ p left left′ → Ready starts list partial′ numbers′ p c u left′
+  pub ready-same : {partial′ numbers′ : List ℕ} {left′ : ℕ} → Kept partial partial′ numbers numbers′ p left left′ → Ready starts list fixed partial′ numbers′ p c u left′
   ready-same {partial′} {numbers′} k =
       let size = k .constants 2 (omega arith) in
       let masks = k .constants 3 (omega arith) in
@@ -96,13 +73,15 @@ module _ {starts list partial numbers : List ℕ} {p c u left : ℕ} (ready : Re
         masks = omega (arith, ready .masks);
         weight = omega (arith, ready .weight, k .constants 4 (omega arith));
         lists = λ j l. ready .lists j (omega arith);
+        fixed-low = rw (size, masks) (ready .fixed-low);
+        fixed-whole = ready .fixed-whole;
         whole = k .whole;
         numbered = k .numbered;
         at = omega (arith, ready .at);
         cheap = ready .cheap;
+        low = λ i h. omega (arith, ready .low i h, ap (λ (l : List ℕ). getD l i 0) (k .before), getD-take p partial i 0 h, getD-take p partial′ i 0 h);
         within = omega (arith, ready .within);
-        count = ap different (k .before) ∙ ready .count;
-        below = λ m. ap (occurs m) (k .before) ∙ ready .below m;
+        used = rw (size, masks, k .before) (ready .used);
         afford = omega (arith, ready .afford, k .fewer, k .constants 5 (omega arith));
       }
 
@@ -126,12 +105,12 @@ set-constants numbers i x h j l = getD-set-other numbers i j x 0 (λ e. omega ar
 state-path : {n n′ c c′ : ℕ} {b b′ : Bool} {h h′ : List ℕ} → n ≡ n′ → b ≡ b′ → c ≡ c′ → h ≡ h′ → state n b c h ≡ state n′ b′ c′ h′
 state-path e f g k = λ i. state (e i) (f i) (g i) (k i)
 
-module _ (starts list partial incumbent numbers : List ℕ) (p c u left m more : ℕ) (ready : Ready starts list partial numbers p c u left) where
+module _ (starts list fixed partial incumbent numbers : List ℕ) (p c u left m more : ℕ) (ready : Ready starts list fixed partial numbers p c u left) where
   abbrev add : List ℕ → ℕ → ℕ
   add = localAdded (weightIn numbers) starts list
 
   abbrev next : List ℕ → ℕ → State → State
-  next = placesFrom starts list numbers (suc p)
+  next = placesFrom starts list fixed numbers (suc p)
 
   -- one step of those that are left
   one-step : 1 ≤ left → step (stateIn incumbent numbers left) ≡ stateIn incumbent numbers (left - 1)
@@ -142,12 +121,12 @@ module _ (starts list partial incumbent numbers : List ℕ) (p c u left m more :
   up-more h = let e : more ≡ suc (more - 1) = omega arith in ap (upFrom m) e ∙ ap (λ (k : ℕ). m ∷ upFrom k (more - 1)) (sym (add-one m))
 
   -- no mask is left
-  pub masked-none : more ≡ 0 → Masked starts list partial partial incumbent incumbent numbers numbers p c left m more left
+  pub masked-none : more ≡ 0 → Masked starts list fixed partial partial incumbent incumbent numbers numbers p c left m more left
   unfolding tryMasks upFrom
   masked-none e = record { searched = rw e; kept = kept-all ready }
 
   -- the budget is used up
-  pub masked-stop : 1 ≤ more → left ≡ 0 → Masked starts list partial partial incumbent incumbent numbers (set numbers 1 1) p c left m more 0
+  pub masked-stop : 1 ≤ more → left ≡ 0 → Masked starts list fixed partial partial incumbent incumbent numbers (set numbers 1 1) p c left m more 0
   masked-stop h e =
       let there : 1 < length numbers = omega (arith, ready .numbered) in
       let constants = set-constants numbers 1 1 (omega arith) in
@@ -169,8 +148,8 @@ module _ (starts list partial incumbent numbers : List ℕ) (p c u left m more :
 
     -- the mask costs too much
     pub masked-skip : {partial₂ incumbent₂ numbers₂ : List ℕ} {left₂ : ℕ} → getD numbers 0 0 ≤ c + r
-        → Masked starts list partial partial₂ incumbent incumbent₂ numbers numbers₂ p c (left - 1) (m + 1) (more - 1) left₂
-        → Masked starts list partial partial₂ incumbent incumbent₂ numbers numbers₂ p c left m more left₂
+        → Masked starts list fixed partial partial₂ incumbent incumbent₂ numbers numbers₂ p c (left - 1) (m + 1) (more - 1) left₂
+        → Masked starts list fixed partial partial₂ incumbent incumbent₂ numbers numbers₂ p c left m more left₂
     masked-skip dear rest = record {
       searched = rest .searched
           ∙ ap (λ (s : State). tryMasks add (budgetIn numbers) next (upFrom (m + 1) (more - 1)) (take p partial) c s) (sym (one-step afford))
@@ -186,7 +165,7 @@ module _ (starts list partial incumbent numbers : List ℕ) (p c u left m more :
     }
 
     module _ {partial₁ incumbent₁ numbers₁ : List ℕ} {left₁ : ℕ} (place : p < sizeIn numbers)
-        (one : Placed starts list (set partial p m) partial₁ incumbent incumbent₁ numbers numbers₁ (p + 1) (c + r) (left - 1) left₁) where
+        (one : Placed starts list fixed (set partial p m) partial₁ incumbent incumbent₁ numbers numbers₁ (p + 1) (c + r) (left - 1) left₁) where
       -- what the search from the next place leaves
       pub kept-below : Kept partial partial₁ numbers numbers₁ p left left₁
       kept-below = record {
@@ -201,21 +180,21 @@ module _ (starts list partial incumbent numbers : List ℕ) (p c u left m more :
       entered =
           let stored = take-stored partial p m (omega (arith, ready .whole, ready .few)) in
           one .searched
-          ∙ ap (λ (k : ℕ). placesFrom starts list numbers k (take (p + 1) (set partial p m)) (c + r) (stateIn incumbent numbers (left - 1))) (add-one p)
+          ∙ ap (λ (k : ℕ). placesFrom starts list fixed numbers k (take (p + 1) (set partial p m)) (c + r) (stateIn incumbent numbers (left - 1))) (add-one p)
           ∙ ap₂ (λ (q : List ℕ) (x : ℕ). next q (c + x) (stateIn incumbent numbers (left - 1))) stored adds
           ∙ ap (λ (s : State). next (take p partial ++ (m ∷ [])) (c + add (take p partial) m) s) (sym (one-step afford))
 
       -- the mask holds, and the search goes on from the next place
       pub masked-enter : {partial₂ incumbent₂ numbers₂ : List ℕ} {left₂ : ℕ} → c + r < getD numbers 0 0
-          → Masked starts list partial₁ partial₂ incumbent₁ incumbent₂ numbers₁ numbers₂ p c left₁ (m + 1) (more - 1) left₂
-          → Masked starts list partial partial₂ incumbent incumbent₂ numbers numbers₂ p c left m more left₂
+          → Masked starts list fixed partial₁ partial₂ incumbent₁ incumbent₂ numbers₁ numbers₂ p c left₁ (m + 1) (more - 1) left₂
+          → Masked starts list fixed partial partial₂ incumbent incumbent₂ numbers numbers₂ p c left m more left₂
       masked-enter cheap rest =
           let size = one .kept .constants 2 (omega arith) in
           let masks = one .kept .constants 3 (omega arith) in
           let weight = one .kept .constants 4 (omega arith) in
           let budget = one .kept .constants 5 (omega arith) in
           let before = kept-below .before in
-          let rules : tryMasks (localAdded (weightIn numbers₁) starts list) (budgetIn numbers₁) (placesFrom starts list numbers₁ (suc p)) (upFrom (m + 1) (more - 1)) (take p partial₁) c (stateIn incumbent₁ numbers₁ left₁)
+          let rules : tryMasks (localAdded (weightIn numbers₁) starts list) (budgetIn numbers₁) (placesFrom starts list fixed numbers₁ (suc p)) (upFrom (m + 1) (more - 1)) (take p partial₁) c (stateIn incumbent₁ numbers₁ left₁)
           ≡ tryMasks add (budgetIn numbers) next (upFrom (m + 1) (more - 1)) (take p partial) c (next (take p partial ++ (m ∷ [])) (c + add (take p partial) m) (step (stateIn incumbent numbers left)))
           = cc (size, masks, weight, budget, before, entered) in
           record {
@@ -233,20 +212,20 @@ module _ (starts list partial incumbent numbers : List ℕ) (p c u left m more :
           }
 
 -- Mask m was tried at place p: what it left, and that the masks after it, tried from there, make what they make with m.
-pub record Went (starts list partial partial₁ incumbent incumbent₁ numbers numbers₁ : List ℕ) (p c left left₁ m more : ℕ) : Type 0 where
+pub record Went (starts list fixed partial partial₁ incumbent incumbent₁ numbers numbers₁ : List ℕ) (p c left left₁ m more : ℕ) : Type 0 where
   pub kept : Kept partial partial₁ numbers numbers₁ p left left₁
-  pub on : {partial₂ incumbent₂ numbers₂ : List ℕ} {left₂ : ℕ} → Masked starts list partial₁ partial₂ incumbent₁ incumbent₂ numbers₁ numbers₂ p c left₁ (m + 1) (more - 1) left₂
-      → Masked starts list partial partial₂ incumbent incumbent₂ numbers numbers₂ p c left m more left₂
+  pub on : {partial₂ incumbent₂ numbers₂ : List ℕ} {left₂ : ℕ} → Masked starts list fixed partial₁ partial₂ incumbent₁ incumbent₂ numbers₁ numbers₂ p c left₁ (m + 1) (more - 1) left₂
+      → Masked starts list fixed partial partial₂ incumbent incumbent₂ numbers numbers₂ p c left m more left₂
 
 -- the same under other names
-pub went-as : {starts list partial partial₁ incumbent incumbent₁ numbers numbers₁ a b n : List ℕ} {p c left left₁ l m more : ℕ}
+pub went-as : {starts list fixed partial partial₁ incumbent incumbent₁ numbers numbers₁ a b n : List ℕ} {p c left left₁ l m more : ℕ}
     → a ≡ partial₁ → b ≡ incumbent₁ → n ≡ numbers₁ → l ≡ left₁
-    → Went starts list partial partial₁ incumbent incumbent₁ numbers numbers₁ p c left left₁ m more → Went starts list partial a incumbent b numbers n p c left l m more
-went-as {starts} {list} {partial} {partial₁} {incumbent} {incumbent₁} {numbers} {numbers₁} {a} {b} {n} {p} {c} {left} {left₁} {l} {m} {more} e f g h w =
-    subst⁻¹ (λ (x : List ℕ). Went starts list partial x incumbent b numbers n p c left l m more) e
-    (subst⁻¹ (λ (x : List ℕ). Went starts list partial partial₁ incumbent x numbers n p c left l m more) f
-    (subst⁻¹ (λ (x : List ℕ). Went starts list partial partial₁ incumbent incumbent₁ numbers x p c left l m more) g
-    (subst⁻¹ (λ (x : ℕ). Went starts list partial partial₁ incumbent incumbent₁ numbers numbers₁ p c left x m more) h w)))
+    → Went starts list fixed partial partial₁ incumbent incumbent₁ numbers numbers₁ p c left left₁ m more → Went starts list fixed partial a incumbent b numbers n p c left l m more
+went-as {starts} {list} {fixed} {partial} {partial₁} {incumbent} {incumbent₁} {numbers} {numbers₁} {a} {b} {n} {p} {c} {left} {left₁} {l} {m} {more} e f g h w =
+    subst⁻¹ (λ (x : List ℕ). Went starts list fixed partial x incumbent b numbers n p c left l m more) e
+    (subst⁻¹ (λ (x : List ℕ). Went starts list fixed partial partial₁ incumbent x numbers n p c left l m more) f
+    (subst⁻¹ (λ (x : List ℕ). Went starts list fixed partial partial₁ incumbent incumbent₁ numbers x p c left l m more) g
+    (subst⁻¹ (λ (x : ℕ). Went starts list fixed partial partial₁ incumbent incumbent₁ numbers numbers₁ p c left x m more) h w)))
 
 -- the row that was made by the table's weight
 pub row-of : {starts list table partial numbers : List ℕ} {p : ℕ} {row : List ℕ} → Weights table (weightIn numbers)
@@ -270,24 +249,24 @@ row-same {starts} {list} r k =
 -- ---- The masks of a place, one after the other
 
 -- The masks before m were tried from the state that has the index 0: the next one may be tried, and those left, tried from here, make what all make.
-pub record MasksLeft (starts list row partial₀ incumbent₀ numbers₀ : List ℕ) (p c u left₀ m₀ more₀ : ℕ) (partial incumbent numbers : List ℕ) (left m more : ℕ) : Type 0 where
-  pub ready : Ready starts list partial numbers p c u left
+pub record MasksLeft (starts list fixed row partial₀ incumbent₀ numbers₀ : List ℕ) (p c u left₀ m₀ more₀ : ℕ) (partial incumbent numbers : List ℕ) (left m more : ℕ) : Type 0 where
+  pub ready : Ready starts list fixed partial numbers p c u left
   pub adds : RowOf starts list partial numbers p row
   pub place : p < sizeIn numbers
-  pub tried : m + more ≡ triedIn numbers u
+  pub tried : m + more ≤ triedIn numbers u
   pub size : sizeIn numbers ≡ sizeIn numbers₀
   pub weight : weightIn numbers ≡ weightIn numbers₀
-  pub on : {partial₂ incumbent₂ numbers₂ : List ℕ} {left₂ : ℕ} → Masked starts list partial partial₂ incumbent incumbent₂ numbers numbers₂ p c left m more left₂
-      → Masked starts list partial₀ partial₂ incumbent₀ incumbent₂ numbers₀ numbers₂ p c left₀ m₀ more₀ left₂
+  pub on : {partial₂ incumbent₂ numbers₂ : List ℕ} {left₂ : ℕ} → Masked starts list fixed partial partial₂ incumbent incumbent₂ numbers numbers₂ p c left m more left₂
+      → Masked starts list fixed partial₀ partial₂ incumbent₀ incumbent₂ numbers₀ numbers₂ p c left₀ m₀ more₀ left₂
 
-pub masks-all : {starts list row partial incumbent numbers : List ℕ} {p c u left m more : ℕ} → Ready starts list partial numbers p c u left → RowOf starts list partial numbers p row
-    → p < sizeIn numbers → m + more ≡ triedIn numbers u → MasksLeft starts list row partial incumbent numbers p c u left m more partial incumbent numbers left m more
+pub masks-all : {starts list fixed row partial incumbent numbers : List ℕ} {p c u left m more : ℕ} → Ready starts list fixed partial numbers p c u left → RowOf starts list partial numbers p row
+    → p < sizeIn numbers → m + more ≤ triedIn numbers u → MasksLeft starts list fixed row partial incumbent numbers p c u left m more partial incumbent numbers left m more
 masks-all ready adds place tried = record { ready = ready; adds = adds; place = place; tried = tried; size = refl; weight = refl; on = λ x. x }
 
-pub masks-next : {starts list row partial₀ incumbent₀ numbers₀ partial incumbent numbers partial₁ incumbent₁ numbers₁ : List ℕ} {p c u left₀ m₀ more₀ left m more left₁ : ℕ}
-    → 1 ≤ more → MasksLeft starts list row partial₀ incumbent₀ numbers₀ p c u left₀ m₀ more₀ partial incumbent numbers left m more
-    → Went starts list partial partial₁ incumbent incumbent₁ numbers numbers₁ p c left left₁ m more
-    → MasksLeft starts list row partial₀ incumbent₀ numbers₀ p c u left₀ m₀ more₀ partial₁ incumbent₁ numbers₁ left₁ (m + 1) (more - 1)
+pub masks-next : {starts list fixed row partial₀ incumbent₀ numbers₀ partial incumbent numbers partial₁ incumbent₁ numbers₁ : List ℕ} {p c u left₀ m₀ more₀ left m more left₁ : ℕ}
+    → 1 ≤ more → MasksLeft starts list fixed row partial₀ incumbent₀ numbers₀ p c u left₀ m₀ more₀ partial incumbent numbers left m more
+    → Went starts list fixed partial partial₁ incumbent incumbent₁ numbers numbers₁ p c left left₁ m more
+    → MasksLeft starts list fixed row partial₀ incumbent₀ numbers₀ p c u left₀ m₀ more₀ partial₁ incumbent₁ numbers₁ left₁ (m + 1) (more - 1)
 masks-next some l w =
     let size = w .kept .constants 2 (omega arith) in
     let masks = w .kept .constants 3 (omega arith) in
@@ -303,24 +282,26 @@ masks-next some l w =
 
 -- ---- A place
 
-module _ (starts list partial incumbent numbers : List ℕ) (p c u left : ℕ) (ready : Ready starts list partial numbers p c u left) where
-  -- all its masks
-  pub placed-masks : {partial₁ incumbent₁ numbers₁ : List ℕ} {left₁ : ℕ} (more : ℕ) → p < sizeIn numbers → more ≡ triedIn numbers u
-      → Masked starts list partial partial₁ incumbent incumbent₁ numbers numbers₁ p c left 0 more left₁
-      → Placed starts list partial partial₁ incumbent incumbent₁ numbers numbers₁ p c left left₁
-  unfolding searchPlaces candidates
-  placed-masks more h e masks =
+module _ (starts list fixed partial incumbent numbers : List ℕ) (p c u left : ℕ) (ready : Ready starts list fixed partial numbers p c u left) where
+  abbrev cands : List ℕ → List ℕ
+  cands = candidatesIn (masksIn numbers) (fixedIn fixed numbers) (sizeIn numbers)
+
+  -- all that are tried there
+  pub placed-masks : {partial₁ incumbent₁ numbers₁ : List ℕ} {left₁ : ℕ} (first more : ℕ) → p < sizeIn numbers → upFrom first more ≡ cands (take p partial)
+      → Masked starts list fixed partial partial₁ incumbent incumbent₁ numbers numbers₁ p c left first more left₁
+      → Placed starts list fixed partial partial₁ incumbent incumbent₁ numbers numbers₁ p c left left₁
+  unfolding searchPlaces
+  placed-masks first more h e masks =
       let places : sizeIn numbers - p ≡ suc (sizeIn numbers - suc p) = omega arith in
-      let all : more ≡ suc (min (different (take p partial)) (masksIn numbers - 1)) = omega (arith, ready .count, ready .some) in
       record {
         searched = masks .searched
-            ∙ ap (λ (k : ℕ). tryMasks (localAdded (weightIn numbers) starts list) (budgetIn numbers) (placesFrom starts list numbers (suc p)) (upFrom 0 k) (take p partial) c (stateIn incumbent numbers left)) all
-            ∙ sym (ap (λ (k : ℕ). searchPlaces (localAdded (weightIn numbers) starts list) (candidates (masksIn numbers)) (budgetIn numbers) k (take p partial) c (stateIn incumbent numbers left)) places);
+            ∙ ap (λ (ms : List ℕ). tryMasks (localAdded (weightIn numbers) starts list) (budgetIn numbers) (placesFrom starts list fixed numbers (suc p)) ms (take p partial) c (stateIn incumbent numbers left)) e
+            ∙ sym (ap (λ (k : ℕ). searchPlaces (localAdded (weightIn numbers) starts list) cands (budgetIn numbers) k (take p partial) c (stateIn incumbent numbers left)) places);
         kept = masks .kept;
       }
 
   -- past the last place
-  pub placed-last : sizeIn numbers ≤ p → Placed starts list partial partial incumbent partial numbers (set numbers 0 c) p c left left
+  pub placed-last : sizeIn numbers ≤ p → Placed starts list fixed partial partial incumbent partial numbers (set numbers 0 c) p c left left
   unfolding searchPlaces
   placed-last h =
       let none-left : sizeIn numbers - p ≡ 0 = omega arith in
@@ -333,6 +314,6 @@ module _ (starts list partial incumbent numbers : List ℕ) (p c u left : ℕ) (
             (ap (λ (x : ℕ). eqb x 1) (getD-set-other numbers 0 1 c 0 (λ q. omega arith)))
             (getD-set-same numbers 0 c 0 there)
             (ap (λ (k : ℕ). take k partial) (constants 2 (omega arith) ∙ end))
-            ∙ sym (ap (λ (k : ℕ). searchPlaces (localAdded (weightIn numbers) starts list) (candidates (masksIn numbers)) (budgetIn numbers) k (take p partial) c (stateIn incumbent numbers left)) none-left);
+            ∙ sym (ap (λ (k : ℕ). searchPlaces (localAdded (weightIn numbers) starts list) cands (budgetIn numbers) k (take p partial) c (stateIn incumbent numbers left)) none-left);
         kept = record { before = refl; whole = ready .whole; numbered = simp length-set (ready .numbered); constants = constants; fewer = omega arith };
       }

@@ -1,20 +1,20 @@
--- The table of weights, made row by row, and one of its rows added to a row of costs, mask by mask. Assumes nothing.
+-- The table: weights, made row by row, and fixed masks behind them; and one of its rows added to a row of costs, mask by mask. Assumes nothing.
 use mathlib.Core.Bool.{Bool, false, _&&_, and-false}
 use mathlib.Core.List.{List}
 use mathlib.Core.Logic.{by-cases}
-use mathlib.Core.Path.{_≡_, ap, subst⁻¹, _∙_}
+use mathlib.Core.Path.{_≡_, sym, ap, subst, subst⁻¹, _∙_}
 use Prim.Native.Nat.{ℕ, _+_, _*_, _≤_, _<_}
 use native.Mathlib.Decide.{ℕ-discrete}
 use native.Mathlib.Nat.{mul-add}
 use native.Mathlib.Omega.{arith}
 use lib.Dec.{eqb, ltb}
-use lib.ListN.{length, getD, set, replicate, length-set, length-replicate}
-use lib.Seq.{getD-set-same, getD-set-other}
+use lib.ListN.{length, getD, set, replicate, length-set, length-replicate, length-drop}
+use lib.Seq.{ext-getD, getD-take, getD-drop, getD-set-same, getD-set-other, length-take-le}
 use borrow.Author.Tests.{eq-eqb, ne-eqb, lt-ltb, le-ltb}
 use Rattle.rules.specs.Basics.{given}
 use Rattle.rules.proofs.Tests.{by-test, ltb-next}
 use Rattle.places.specs.Local.{onMask}
-use Rattle.search.specs.Weights.{weightOf, Weights}
+use Rattle.search.specs.Weights.{weightOf, fixedBehind, Weights, WithFixed}
 use Rattle.search.proofs.Rows.{on-next, all-small}
 
 pub weight-of : {table : List ℕ} {weight : ℕ} → Weights table weight → weightOf table ≡ weight
@@ -42,14 +42,14 @@ other-next x h n = ltb-next x h ∙ rw (ne-eqb x h n) (by-test (ltb x h) (λ e. 
 -- the rows below h are made
 pub record TableTo (weight : ℕ) (table : List ℕ) (h : ℕ) : Type 0 where
   pub at : h ≤ 8
-  pub size : length table ≡ 64
+  pub size : length table ≡ 576
   pub entries : (a m : ℕ) → a < 8 → m < 8 → getD table (8 * a + m) 0 ≡ given (eqb a m && ltb a h) weight
 
-pub table-none : (weight : ℕ) → TableTo weight (replicate 64 0) 0
+pub table-none : (weight : ℕ) → TableTo weight (replicate 576 0) 0
 table-none weight = record {
   at = omega arith;
-  size = length-replicate {A = ℕ} 64 0;
-  entries = λ a m l k. rw (past-not a 0 (omega arith), and-false (eqb a m)) (omega (arith, all-small 64 0 (8 * a + m)));
+  size = length-replicate {A = ℕ} 576 0;
+  entries = λ a m l k. rw (past-not a 0 (omega arith), and-false (eqb a m)) (omega (arith, all-small 576 0 (8 * a + m)));
 }
 
 pub table-next : (weight : ℕ) (table : List ℕ) (h : ℕ) → h < 8 → TableTo weight table h → TableTo weight (set table (9 * h) weight) (h + 1)
@@ -77,6 +77,49 @@ table-all {weight} {table} {h} light l t = record {
   light = light;
   entries = λ a m b k. t .entries a m b k ∙ rw (lt-ltb a h (omega arith)) (by-test (eqb a m) (λ e. rw e) (λ e. rw e));
 }
+
+-- ---- Fixed masks behind the weights
+
+-- those of the places below i are there
+pub record FixedUpTo (weight : ℕ) (fixed table : List ℕ) (i : ℕ) : Type 0 where
+  pub weights : Weights table weight
+  pub noted : (k : ℕ) → k < i → getD table (64 + k) 0 ≡ getD fixed k 0
+
+pub fixed-none : {weight : ℕ} (fixed : List ℕ) {table : List ℕ} → Weights table weight → FixedUpTo weight fixed table 0
+fixed-none fixed w = record { weights = w; noted = λ k h. absurd (omega arith) }
+
+pub fixed-next : {weight : ℕ} {fixed table : List ℕ} {i : ℕ} → i < 512 → FixedUpTo weight fixed table i → FixedUpTo weight fixed (set table (64 + i) (getD fixed i 0)) (i + 1)
+fixed-next {fixed = fixed} {table = table} {i = i} l f =
+    let x = getD fixed i 0 in
+    record {
+      weights = record {
+        size = length-set table (64 + i) x ∙ f .weights .size;
+        light = f .weights .light;
+        entries = λ h m a b. getD-set-other table (64 + i) (8 * h + m) x 0 (λ e. omega arith) ∙ f .weights .entries h m a b;
+      };
+      noted = λ k h. by-cases (ℕ-discrete k i)
+          (λ e. rw e (getD-set-same table (64 + i) x 0 (omega (arith, f .weights .size))))
+          (λ n. getD-set-other table (64 + i) (64 + k) x 0 (λ e. n (omega arith)) ∙ f .noted k (omega arith));
+    }
+
+pub behind-length : {weight : ℕ} {table : List ℕ} → Weights table weight → length (fixedBehind table) ≡ 512
+behind-length {table = table} w = omega (arith, length-drop 64 table, w .size)
+
+pub fixed-all : {weight : ℕ} {fixed table : List ℕ} {i size : ℕ} → size ≤ 512 → length fixed ≡ 512 → size ≤ i → FixedUpTo weight fixed table i
+    → WithFixed weight fixed size table
+fixed-all {fixed = fixed} {table = table} {size = size} few whole l f =
+    let behind = length-take-le size (fixedBehind table) (omega (arith, behind-length (f .weights))) in
+    let given = length-take-le size fixed (omega arith) in
+    record {
+      weights = f .weights;
+      behind = ext-getD 0 _ _ (behind ∙ sym given) λ k h.
+          let low : k < size = omega arith in
+          getD-take size (fixedBehind table) k 0 low ∙ getD-drop 64 table k 0 ∙ f .noted k (omega arith) ∙ sym (getD-take size fixed k 0 low);
+    }
+
+-- the same by the weight itself
+pub fixed-by : {weight : ℕ} {before fixed table : List ℕ} {n : ℕ} → Weights before weight → WithFixed (weightOf before) fixed n table → WithFixed weight fixed n table
+fixed-by {fixed = fixed} {table = table} {n = n} w f = subst (λ (x : ℕ). WithFixed x fixed n table) (weight-of w) f
 
 -- ---- One of its rows added
 

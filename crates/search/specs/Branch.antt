@@ -1,12 +1,15 @@
 -- What the search's functions say: the numbers of a search, when a call may be made, and what it leaves. Assumes nothing: these are definitions.
+use mathlib.Core.Bool.{Bool, true, false}
 use mathlib.Core.List.{List}
 use mathlib.Core.Path.{_≡_}
 use Prim.Native.Nat.{ℕ, suc, _-_, _*_, _≤_, _<_, min}
 use lib.Dec.{eqb, ltb}
 use lib.ListN.{length, getD, take}
-use Rattle.rules.specs.Basics.{upFrom, occurs}
-use Rattle.rules.specs.Search.{different, candidates, State, state, tryMasks, searchPlaces}
+use Rattle.rules.specs.Basics.{upTo, upFrom, anyOf, occurs}
+use Rattle.rules.specs.Peeling.{isFixed}
+use Rattle.rules.specs.Search.{different, candidatesIn, State, state, tryMasks, searchPlaces}
 use Rattle.places.specs.Local.{localAdded, PlaceLists}
+use Rattle.search.specs.First.{fixedTo, FixedLow}
 
 abbrev pub sizeIn : List ℕ → ℕ
 sizeIn numbers = getD numbers 2 0
@@ -20,7 +23,15 @@ weightIn numbers = getD numbers 4 0
 abbrev pub budgetIn : List ℕ → ℕ
 budgetIn numbers = getD numbers 5 0
 
--- how many masks are tried where u different ones are in use
+-- the fixed masks of the places
+abbrev pub fixedIn : List ℕ → List ℕ → ℕ → ℕ
+fixedIn fixed numbers = fixedTo fixed (sizeIn numbers)
+
+-- whether a place is fixed
+abbrev pub anyFixed : List ℕ → List ℕ → Bool
+anyFixed fixed numbers = anyOf (isFixed (fixedIn fixed numbers)) (upTo (sizeIn numbers))
+
+-- how many masks are tried at a place that is not fixed, where u are in use
 abbrev pub triedIn : List ℕ → ℕ → ℕ
 triedIn numbers u = min (suc u) (masksIn numbers)
 
@@ -29,23 +40,31 @@ abbrev pub stateIn : List ℕ → List ℕ → ℕ → State
 stateIn incumbent numbers left = state (budgetIn numbers - left) (eqb (getD numbers 1 0) 1) (getD numbers 0 0) (take (sizeIn numbers) incumbent)
 
 -- the search of the rules on the local problem, from a place on
-abbrev pub placesFrom : List ℕ → List ℕ → List ℕ → ℕ → List ℕ → ℕ → State → State
-placesFrom starts list numbers k = searchPlaces (localAdded (weightIn numbers) starts list) (candidates (masksIn numbers)) (budgetIn numbers) (sizeIn numbers - k)
+abbrev pub placesFrom : List ℕ → List ℕ → List ℕ → List ℕ → ℕ → List ℕ → ℕ → State → State
+placesFrom starts list fixed numbers k =
+    searchPlaces (localAdded (weightIn numbers) starts list) (candidatesIn (masksIn numbers) (fixedIn fixed numbers) (sizeIn numbers)) (budgetIn numbers) (sizeIn numbers - k)
 
--- The local problem and the masks before place p: they cost c, at most so much for each place, and are those below u.
-pub record Ready (starts list partial numbers : List ℕ) (p c u left : ℕ) : Type 0 where
+-- The masks in use before a place, of K. Where no place is fixed they are u different ones, those below u. Where one is fixed all K are taken to be in use.
+pub data Used (K : ℕ) (someFixed : Bool) (q : List ℕ) (u : ℕ) : Type 0 where
+  renamed : someFixed ≡ false → different q ≡ u → ((m : ℕ) → occurs m q ≡ ltb m u) → Used K someFixed q u
+  every : someFixed ≡ true → u ≡ K → Used K someFixed q u
+
+-- The local problem and the masks before place p: they cost c, at most so much for each place, and u are in use.
+pub record Ready (starts list fixed partial numbers : List ℕ) (p c u left : ℕ) : Type 0 where
   pub few : sizeIn numbers ≤ 512
   pub some : 1 ≤ masksIn numbers
   pub masks : masksIn numbers ≤ 8
   pub weight : weightIn numbers ≤ 1000
   pub lists : (k : ℕ) → k < sizeIn numbers → PlaceLists starts list k
+  pub fixed-low : FixedLow (fixedIn fixed numbers) (sizeIn numbers) (masksIn numbers)
+  pub fixed-whole : length fixed ≡ 512
   pub whole : length partial ≡ 512
   pub numbered : length numbers ≡ 6
   pub at : p ≤ sizeIn numbers
   pub cheap : c ≤ 131_715_584 * p
+  pub low : (i : ℕ) → i < p → getD partial i 0 < 8
   pub within : u ≤ masksIn numbers
-  pub count : different (take p partial) ≡ u
-  pub below : (m : ℕ) → occurs m (take p partial) ≡ ltb m u
+  pub used : Used (masksIn numbers) (anyFixed fixed numbers) (take p partial) u
   pub afford : left ≤ budgetIn numbers
 
 -- the row of what masks add at place p
@@ -61,11 +80,11 @@ pub record Kept (partial partial′ numbers numbers′ : List ℕ) (p left left�
   pub constants : (i : ℕ) → 2 ≤ i → getD numbers′ i 0 ≡ getD numbers i 0
   pub fewer : left′ ≤ left
 
-pub record Placed (starts list partial partial′ incumbent incumbent′ numbers numbers′ : List ℕ) (p c left left′ : ℕ) : Type 0 where
-  pub searched : stateIn incumbent′ numbers′ left′ ≡ placesFrom starts list numbers p (take p partial) c (stateIn incumbent numbers left)
+pub record Placed (starts list fixed partial partial′ incumbent incumbent′ numbers numbers′ : List ℕ) (p c left left′ : ℕ) : Type 0 where
+  pub searched : stateIn incumbent′ numbers′ left′ ≡ placesFrom starts list fixed numbers p (take p partial) c (stateIn incumbent numbers left)
   pub kept : Kept partial partial′ numbers numbers′ p left left′
 
-pub record Masked (starts list partial partial′ incumbent incumbent′ numbers numbers′ : List ℕ) (p c left m more left′ : ℕ) : Type 0 where
+pub record Masked (starts list fixed partial partial′ incumbent incumbent′ numbers numbers′ : List ℕ) (p c left m more left′ : ℕ) : Type 0 where
   pub searched : stateIn incumbent′ numbers′ left′
-      ≡ tryMasks (localAdded (weightIn numbers) starts list) (budgetIn numbers) (placesFrom starts list numbers (suc p)) (upFrom m more) (take p partial) c (stateIn incumbent numbers left)
+      ≡ tryMasks (localAdded (weightIn numbers) starts list) (budgetIn numbers) (placesFrom starts list fixed numbers (suc p)) (upFrom m more) (take p partial) c (stateIn incumbent numbers left)
   pub kept : Kept partial partial′ numbers numbers′ p left left′

@@ -1,4 +1,4 @@
 pub mod Weights
-pub mod Branch
 pub mod First
+pub mod Branch
 pub mod Component

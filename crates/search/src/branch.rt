@@ -1,14 +1,16 @@
 // The search over the places of a component (document 01: the walk), by two functions that call each other, one for a place and one for its
-// masks. What changes seldom lies in lent arrays, so that a step passes and returns few numbers.
+// masks. What changes seldom lies in lent arrays, so that a step passes and returns few numbers; the fixed masks of the places stand in the
+// table behind the weights, so that no array more is passed.
 //
 // The numbers of a search: at 0 the incumbent's cost, at 1 whether a step was due beyond the budget (1 if so), at 2 how many places there are,
 // at 3 the masks, at 4 the weight, at 5 the budget. Those from 2 on do not change.
 ghost use mathlib.Core.Path.{_≡_};
-ghost use Prim.Native.Nat.{_+_, _<_};
+ghost use Prim.Native.Nat.{_+_, _≤_, _<_};
 ghost use lib.ListN.{set};
 ghost use Rattle.search.specs.Branch.{Ready, RowOf, Placed, Masked, sizeIn, weightIn, triedIn};
-ghost use Rattle.search.specs.Weights.{Weights};
+ghost use Rattle.search.specs.Weights.{Weights, fixedBehind};
 use crate::row::added_row;
+use rules::Piece;
 
 // The partial assignment becomes the incumbent.
 pub fn hold(partial: &[u8; 512], incumbent: &mut [u8; 512])
@@ -35,12 +37,13 @@ pub fn put(partial: &mut [u8; 512], i: usize, m: u8)
     all[i] = m;
 }
 
-// Searches the places from p on, where those before it have the masks of `partial`, which cost `cost` and are `used` different ones, and
-// `left` steps are left. Answers how many are left then.
+// Searches the places from p on, where those before it have the masks of `partial`, which cost `cost`, and `left` steps are left. The masks
+// below `used` and the next one are tried at a place that is not fixed: `used` is how many different masks there are before p, or, where a
+// place is fixed and masks cannot be renamed, the number of masks. Answers how many steps are left then.
 pub fn search_place(
     starts: &[u32; 1025],
     list: &[u16; 131584],
-    table: &[u32; 64],
+    table: &[u32; 576],
     partial: &mut [u8; 512],
     incumbent: &mut [u8; 512],
     numbers: &mut [u64; 6],
@@ -49,9 +52,9 @@ pub fn search_place(
     used: u64,
     left: u64,
 ) -> u64
-    requires { ⌜ Ready (now starts) (now list) (now partial) (now numbers) p cost used left ⌝ }
+    requires { ⌜ Ready (now starts) (now list) (fixedBehind (now table)) (now partial) (now numbers) p cost used left ⌝ }
     requires { ⌜ Weights (now table) (weightIn (now numbers)) ⌝ }
-    ensures { λ r. ⌜ Placed (now (starts .entry)) (now (list .entry)) (now (partial .entry)) (now (partial .exit)) (now (incumbent .entry)) (now (incumbent .exit)) (now (numbers .entry)) (now (numbers .exit)) p cost left r ⌝ }
+    ensures { λ r. ⌜ Placed (now (starts .entry)) (now (list .entry)) (fixedBehind (now (table .entry))) (now (partial .entry)) (now (partial .exit)) (now (incumbent .entry)) (now (incumbent .exit)) (now (numbers .entry)) (now (numbers .exit)) p cost left r ⌝ }
 {
     if numbers[2] <= p as u64 {
         hold(partial, incumbent);
@@ -60,7 +63,13 @@ pub fn search_place(
     }
     let row = added_row(starts, list, table, partial, p);
     let masks = numbers[3];
-    let more = if used < masks { used + 1 } else { masks };
+    let own = table[64 + p];
+    let mut first = 0;
+    let mut more = if used < masks { used + 1 } else { masks };
+    if own != Piece::UNSET as u32 {
+        first = own as u64;
+        more = 1;
+    }
     search_masks(
         starts,
         list,
@@ -73,7 +82,7 @@ pub fn search_place(
         used,
         left,
         &row,
-        0,
+        first,
         more,
     )
 }
@@ -82,7 +91,7 @@ pub fn search_place(
 fn search_masks(
     starts: &[u32; 1025],
     list: &[u16; 131584],
-    table: &[u32; 64],
+    table: &[u32; 576],
     partial: &mut [u8; 512],
     incumbent: &mut [u8; 512],
     numbers: &mut [u64; 6],
@@ -94,11 +103,11 @@ fn search_masks(
     m: u64,
     more: u64,
 ) -> u64
-    requires { ⌜ Ready (now starts) (now list) (now partial) (now numbers) p cost used left ⌝ }
+    requires { ⌜ Ready (now starts) (now list) (fixedBehind (now table)) (now partial) (now numbers) p cost used left ⌝ }
     requires { ⌜ RowOf (now starts) (now list) (now partial) (now numbers) p (now row) ⌝ }
-    requires { ⌜ (p < sizeIn (now numbers)) × (m + more ≡ triedIn (now numbers) used) ⌝ }
+    requires { ⌜ (p < sizeIn (now numbers)) × (m + more ≤ triedIn (now numbers) used) ⌝ }
     requires { ⌜ Weights (now table) (weightIn (now numbers)) ⌝ }
-    ensures { λ r. ⌜ Masked (now (starts .entry)) (now (list .entry)) (now (partial .entry)) (now (partial .exit)) (now (incumbent .entry)) (now (incumbent .exit)) (now (numbers .entry)) (now (numbers .exit)) p cost left m more r ⌝ }
+    ensures { λ r. ⌜ Masked (now (starts .entry)) (now (list .entry)) (fixedBehind (now (table .entry))) (now (partial .entry)) (now (partial .exit)) (now (incumbent .entry)) (now (incumbent .exit)) (now (numbers .entry)) (now (numbers .exit)) p cost left m more r ⌝ }
 {
     let mut rest = left;
     let mut mask = m;

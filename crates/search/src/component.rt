@@ -4,32 +4,35 @@ use crate::branch::hold;
 use crate::branch::search_place;
 use crate::branch::store;
 use crate::first::first_assignment;
+use crate::first::has_fixed;
+use crate::row::note_fixed;
 use crate::row::weight_table;
 
-// Leaves the best masks that were found in `incumbent`, and their cost and whether the search was stopped in `numbers`, where the rest is
-// given. Answers how many of the `left` steps are left then.
+// `fixed` has the fixed masks of the places. Leaves the best masks that were found in `incumbent`, and their cost and whether the search was
+// stopped in `numbers`, where the rest is given. Answers how many of the `left` steps are left then.
 pub fn search_component(
     starts: &[u32; 1025],
     list: &[u16; 131584],
+    fixed: &[u8; 512],
     incumbent: &mut [u8; 512],
     numbers: &mut [u64; 6],
     left: u64,
 ) -> u64
-    requires { ⌜ Posed (now starts) (now list) (now numbers) left ⌝ }
-    ensures { λ r. ⌜ Searched (now (starts .entry)) (now (list .entry)) (now (incumbent .exit)) (now (numbers .entry)) (now (numbers .exit)) left r ⌝ }
+    requires { ⌜ Posed (now starts) (now list) (now fixed) (now numbers) left ⌝ }
+    ensures { λ r. ⌜ Searched (now (starts .entry)) (now (list .entry)) (now (fixed .entry)) (now (incumbent .exit)) (now (numbers .entry)) (now (numbers .exit)) left r ⌝ }
 {
-    let table = weight_table(numbers[4]);
+    let size = numbers[2] as usize;
+    let mut table = weight_table(numbers[4]);
+    note_fixed(&mut table, fixed, size);
     let mut partial = [0u8; 512];
-    let cost = first_assignment(
-        starts,
-        list,
-        &table,
-        &mut partial,
-        numbers[2] as usize,
-        numbers[3],
-    );
+    let cost = first_assignment(starts, list, &table, fixed, &mut partial, size, numbers[3]);
     hold(&partial, incumbent);
     store(numbers, 0, cost);
+    let used = if has_fixed(fixed, size) {
+        numbers[3]
+    } else {
+        0
+    };
     search_place(
         starts,
         list,
@@ -39,7 +42,7 @@ pub fn search_component(
         numbers,
         0,
         0,
-        0,
+        used,
         left,
     )
 }

@@ -6,14 +6,14 @@ ghost use lib.ListN.{length, getD, take};
 ghost use lib.Dec.{eqb};
 ghost use Rattle.rules.specs.Basics.{given};
 ghost use Rattle.places.specs.Local.{onMask, localAdded, PlaceLists};
-ghost use Rattle.search.specs.Weights.{weightOf, Weights};
+ghost use Rattle.search.specs.Weights.{weightOf, Weights, WithFixed};
 
-// A table of the weight.
-pub fn weight_table(weight: u64) -> [u32; 64]
+// A table of the weight, with room behind it for 512 fixed masks.
+pub fn weight_table(weight: u64) -> [u32; 576]
     requires { ⌜ weight ≤ 1000 ⌝ }
     ensures { λ r. ⌜ Weights r weight ⌝ }
 {
-    let mut table = [0u32; 64];
+    let mut table = [0u32; 576];
     let mut h = 0;
     while h < 8 {
         table[9 * h] = weight as u32;
@@ -22,8 +22,29 @@ pub fn weight_table(weight: u64) -> [u32; 64]
     table
 }
 
+// A mask, as a number of the table.
+fn wide(mask: u8) -> u32
+    ensures { λ r. ⌜ r ≡ mask ⌝ }
+{
+    mask as u32
+}
+
+// Puts the fixed masks of the places below `size` behind the weights.
+pub fn note_fixed(table: &mut [u32; 576], fixed: &[u8; 512], size: usize)
+    requires { ⌜ (size ≤ 512) × (length (now fixed) ≡ 512) ⌝ }
+    requires { ⌜ Weights (now table) (weightOf (now table)) ⌝ }
+    ensures { λ _. ⌜ WithFixed (weightOf (now (table .entry))) (now (fixed .entry)) size (now (table .exit)) ⌝ }
+{
+    let all: &mut [u32] = table;
+    let mut i = 0;
+    while i < size {
+        all[64 + i] = wide(fixed[i]);
+        i += 1;
+    }
+}
+
 // The costs with the weight added for one mask.
-fn add_weight(row: [u32; 8], table: &[u32; 64], mask: usize) -> [u32; 8]
+fn add_weight(row: [u32; 8], table: &[u32; 576], mask: usize) -> [u32; 8]
     requires { ⌜ mask < 8 ⌝ }
     requires { ⌜ Weights (now table) (weightOf (now table)) ⌝ }
     requires { ⌜ ((m : ℕ) → m < 8 → getD row m 0 ≤ 131715584) ⌝ }
@@ -41,7 +62,7 @@ fn add_weight(row: [u32; 8], table: &[u32; 64], mask: usize) -> [u32; 8]
 // The weight for each entry with its mask.
 fn add_conflicts(
     list: &[u16; 131584],
-    table: &[u32; 64],
+    table: &[u32; 576],
     partial: &[u8; 512],
     row: [u32; 8],
     from: usize,
@@ -92,7 +113,7 @@ fn drop_stitches(
 pub fn added_row(
     starts: &[u32; 1025],
     list: &[u16; 131584],
-    table: &[u32; 64],
+    table: &[u32; 576],
     partial: &[u8; 512],
     k: usize,
 ) -> [u32; 8]

@@ -1,5 +1,5 @@
--- A stream read: the records after the elements, and the pieces judged as lent ones. Where every element's piece passes, it is the element's own piece, so both
--- ways of judging come to the same layer. Assumes nothing.
+-- A stream read: the records after the elements, and the pieces judged as lent ones. Where every element's piece passes, it is the element's own piece, and none
+-- has a fixed mask, so both ways of judging come to the same layer. Assumes nothing.
 use mathlib.Core.Bool.{true, false, not, _||_}
 use mathlib.Core.List.{List, [], _∷_, map}
 use mathlib.Core.Logic.{inl, inr}
@@ -9,7 +9,7 @@ use native.Mathlib.Nat.{add-comm}
 use native.Mathlib.Numerals.{add-one}
 use native.Mathlib.Omega.{arith}
 use lib.Dec.{ltb}
-use lib.ListN.{length, getD, take, drop, replicate, length-append, length-map, length-replicate, getD-replicate, List·getD-append, List·getD-map}
+use lib.ListN.{length, getD, take, drop, replicate, length-append, length-map, length-replicate, getD-replicate, List·getD-append}
 use lib.Seq.{drop-cons, length-take-le, ext-getD, getD-take, getD-append-add}
 use borrow.Author.Tests.{le-leb, lt-leb, lt-ltb, le-ltb}
 use Rattle.rules.specs.declared.layer.Piece.{Piece}
@@ -19,15 +19,16 @@ use Rattle.rules.specs.declared.refusal.Refusal.{Refusal}
 use Rattle.rules.specs.declared.answers.ReadAnswer.{ReadAnswer}
 use Rattle.rules.specs.Answers.{refusalNumber, readAnswer, inRecords}
 use Rattle.rules.specs.Basics.{anyOf}
-use Rattle.rules.specs.Settings.{noPiece, pieceInRange, hasArea, pieceAt}
-use Rattle.rules.specs.Questions.{Outcome, done, refused, ask, andThen, askEach, judgePiece, judgeOverlaps, layerFrom}
+use Rattle.rules.specs.Settings.{pieceInRange, hasArea, unset, noPiece, pieceAt}
+use Rattle.rules.specs.Questions.{Outcome, done, refused, ask, andThen, askEach, judgePiece, judgeRecord, judgeOverlaps, layerFrom}
 use Rattle.rules.specs.Stream.{endstr, endlib, front, passRecords, Element, readElements, readStreamElements, readSettings, readStream, pieceOf, noElement, judgeElement, judgeElements}
 use Rattle.rules.proofs.Outcomes.{accepted, each-ext, ends-each, then-same, then-assoc}
 use Rattle.rules.proofs.Tests.{lt-or-ge}
+use Rattle.rules.proofs.Unfixed.{NoneFixed, none-judged}
 use Rattle.rules.proofs.Validity.{judged-piece}
-use Rattle.layout.specs.Flat as layout
-use Rattle.layout.specs.Flat.{piecesOf}
-use Rattle.layout.proofs.PieceLaws.{pieces-length, piece-of}
+use Rattle.layout.specs.Flat.{recordsOf}
+use Rattle.layout.proofs.RecordLaws.{recordQuestion, records-length, record-of}
+use Rattle.stream_theory.proofs.StreamReading.{piece-of}
 use Rattle.gds_records.specs.declared.kinds.Kind.{Kind}
 use Rattle.gds_records.specs.Kinds.{duesFrom}
 use Rattle.gds_records.specs.Records.{Passed}
@@ -88,6 +89,11 @@ module _ (bytes : List ℕ) (count size : ℕ) (records : List Piece) (c : Colle
 
 -- ---- The pieces judged
 
+-- a piece without a fixed mask is asked as a lent record
+free-asked : (K : ℕ) (place : Place) (p : Piece) → p .fixed ≡ unset → judgeRecord K place p ≡ judgePiece place p
+unfolding judgeRecord judgePiece
+free-asked K place p e = rw e
+
 pub body-stops : (bytes : List ℕ) (count : ℕ) (records : List Piece) (a : ReadAnswer) → HeldTold (readBody bytes) count records a
     → (q : Refusal) (place : Place) → a ≡ ReadAnswer.Refused q place → readBody bytes ≡ refused (refusalNumber q) place
 body-stops bytes count records a told q place e = subst (HeldTold (readBody bytes) count records) e told
@@ -136,7 +142,14 @@ module _ (bytes : List ℕ) (count : ℕ) (records : List Piece) (held : Held (r
     abbrev ofElement : ℕ → Outcome (Unit {0})
     ofElement i = judgeElement (Place.Piece i) (getD es i noElement)
 
+    -- no piece has a fixed mask
+    free : NoneFixed ps
+    free i h = let low : i < count = omega (arith, size) in ap (λ (p : Piece). p .fixed) (here i low) ∙ held .alike i low (omega arith) .free
+
     -- asked alike
+    records-asked : (K : ℕ) → askEach (λ i. judgeRecord K (Place.Piece i) (pieceAt ps i)) count ≡ askEach ofPiece count
+    records-asked K = each-ext count λ i h. free-asked K (Place.Piece i) (pieceAt ps i) (free i (omega (arith, size)))
+
     asked : askEach ofPiece count ≡ askEach ofElement count
     asked = each-ext count λ i h. ap (judgePiece (Place.Piece i)) (here i h) ∙ held .alike i h (omega arith) .judged (Place.Piece i)
 
@@ -147,7 +160,7 @@ module _ (bytes : List ℕ) (count : ℕ) (records : List Piece) (held : Held (r
         ext-getD noPiece ps (map pieceOf es) (size ∙ sym (length-map es pieceOf ∙ held .counted)) λ i h.
         let low : i < count = omega (arith, size) in
         let range : pieceInRange (pieceAt records i) ≡ true = sym (ap pieceInRange (here i low)) ∙ ranges i low .0 in
-        here i low ∙ held .alike i low (omega arith) .same range ∙ sym (List·getD-map pieceOf es i noElement)
+        here i low ∙ held .alike i low (omega arith) .same range ∙ sym (piece-of es i (omega (arith, held .counted)))
 
     in-count : judgeElements es ≡ (andThen (askEach ofElement count) λ _. judgeOverlaps (map pieceOf es))
     unfolding judgeElements
@@ -155,28 +168,25 @@ module _ (bytes : List ℕ) (count : ℕ) (records : List Piece) (held : Held (r
 
     pub judged-same : (s : Settings) → andThen (readBody bytes) (judgedElements s) ≡ judgedRecords s ps
     unfolding layerFrom
-    judged-same s = rw (held .read, in-count, size, ← asked) (go (askEach ofPiece count) refl)
+    judged-same s = rw (held .read, in-count, size, records-asked (s .masks), ← asked) (go (askEach ofPiece count) refl)
       where
         go : (o : Outcome (Unit {0})) → askEach ofPiece count ≡ o
             → (andThen (andThen o λ _. judgeOverlaps (map pieceOf es)) λ _. done (record { settings = s; pieces = map pieceOf es })) ≡ (andThen o λ _. layerFrom s ps)
         go (refused number place) e = refl
-        go (done tt) e = ap (λ (l : List Piece). andThen (judgeOverlaps l) λ _. done (record { settings = s; pieces = l })) (sym (own e))
+        go (done tt) e = rw (none-judged s ps free) (ap (λ (l : List Piece). andThen (judgeOverlaps l) λ _. done (record { settings = s; pieces = l })) (sym (own e)))
 
 -- ---- The pieces as numbers
 
-module _ (s : Settings) (flat : List ℕ) (count : ℕ) (ps : List Piece) (stored : piecesOf flat count ≡ ps) where
-  abbrev question : ℕ → Outcome (Unit {0})
-  question i = judgePiece (Place.Piece i) (layout.pieceOf flat i)
-
-  same-questions : askEach (λ i. judgePiece (Place.Piece i) (pieceAt ps i)) (length ps) ≡ askEach question count
+module _ (s : Settings) (flat fixed : List ℕ) (count : ℕ) (ps : List Piece) (stored : recordsOf flat fixed count ≡ ps) where
+  same-questions : askEach (λ i. judgeRecord (s .masks) (Place.Piece i) (pieceAt ps i)) (length ps) ≡ askEach (recordQuestion (s .masks) flat fixed) count
   same-questions =
-      ap (askEach (λ i. judgePiece (Place.Piece i) (pieceAt ps i))) (ap length (sym stored) ∙ pieces-length flat count)
-      ∙ each-ext count λ i h. ap (judgePiece (Place.Piece i)) (ap (λ (l : List Piece). pieceAt l i) (sym stored) ∙ piece-of flat count i h)
+      ap (askEach (λ i. judgeRecord (s .masks) (Place.Piece i) (pieceAt ps i))) (ap length (sym stored) ∙ records-length flat fixed count)
+      ∙ each-ext count λ i h. ap (judgeRecord (s .masks) (Place.Piece i)) (ap (λ (l : List Piece). pieceAt l i) (sym stored) ∙ record-of flat fixed count i h)
 
-  pub records-stop : (number : ℕ) (place : Place) → askEach question count ≡ refused number place → judgedRecords s ps ≡ refused number place
+  pub records-stop : (number : ℕ) (place : Place) → askEach (recordQuestion (s .masks) flat fixed) count ≡ refused number place → judgedRecords s ps ≡ refused number place
   records-stop number place e = rw (same-questions ∙ e)
 
-  pub records-pass : askEach question count ≡ done tt → judgedRecords s ps ≡ layerFrom s ps
+  pub records-pass : askEach (recordQuestion (s .masks) flat fixed) count ≡ done tt → judgedRecords s ps ≡ layerFrom s ps
   records-pass e = rw (same-questions ∙ e)
 
 -- ---- The call

@@ -1,9 +1,10 @@
 -- The settings text: the six lines, no pieces, nothing after them. Assumes nothing.
-use mathlib.Core.List.{List}
-use mathlib.Core.Path.{_≡_, sym, ap, _∙_}
+use mathlib.Core.Bool.{false}
+use mathlib.Core.List.{List, [], _∷_}
+use mathlib.Core.Path.{_≡_, refl, sym, ap, _∙_}
 use Prim.Native.Nat.{ℕ, _≤_, _<_}
 use native.Mathlib.Omega.{arith}
-use lib.ListN.{length, drop, length-drop}
+use lib.ListN.{length, drop, length-drop, drop-of-length-le}
 use borrow.Author.Tests.{eq-eqb, ne-eqb}
 use Rattle.rules.specs.declared.layer.Settings.{Settings}
 use Rattle.rules.specs.declared.refusal.Place.{Place}
@@ -13,7 +14,10 @@ use Rattle.rules.specs.Questions.{done, refused, isEmpty, readHeader}
 use Rattle.rules.specs.Stream.{readSettings}
 use Rattle.text.specs.declared.header.HeaderAnswer.{HeaderAnswer}
 use Rattle.text.specs.Header.{headerAnswer, HeaderFound}
-use Rattle.text.proofs.LayerReading.{not-empty, nothing}
+
+not-empty : (text : List ℕ) → 0 < length text → isEmpty text ≡ false
+not-empty [] h = absurd (omega arith)
+not-empty (b ∷ text) h = refl
 
 module _ (text : List ℕ) (r : HeaderAnswer) (f : HeaderFound text r) where
   pub header-stops : (q : Refusal) (place : Place) → r ≡ HeaderAnswer.Refused q place → refused (refusalNumber q) place ≡ readSettings text
@@ -35,4 +39,4 @@ module _ (text : List ℕ) (r : HeaderAnswer) (f : HeaderFound text r) where
 
       pub has-settings : length text ≤ bytes → done s ≡ readSettings text
       unfolding readSettings
-      has-settings all = sym (rw (read, eq-eqb count 0 none, ap isEmpty (nothing (drop bytes text) (omega (arith, length-drop bytes text)))))
+      has-settings all = sym (rw (read, eq-eqb count 0 none, ap isEmpty (drop-of-length-le text all)))

@@ -12,7 +12,7 @@ use Rattle.rules.specs.declared.answers.ReadAnswer.{ReadAnswer}
 use Rattle.rules.specs.Answers.{refusalNumber}
 use Rattle.rules.specs.Basics.{anyOf}
 use Rattle.rules.specs.Settings.{noPiece, pieceAt}
-use Rattle.rules.specs.Questions.{Outcome, done, refused, ask, andThen, askEach, judgePiece, Layer, layerFrom}
+use Rattle.rules.specs.Questions.{Outcome, done, refused, ask, andThen, askEach, judgeRecord, Layer, layerFrom}
 use Rattle.rules.specs.Stream.{endstr, endlib, front, passRecords, Element, readElements, pieceOf, noElement, judgeElements}
 use Rattle.gds_elements.specs.declared.elements.Elements.{Elements}
 use Rattle.gds_elements.specs.Elements.{Alike}
@@ -46,9 +46,9 @@ HeldTold o count records (ReadAnswer.Refused q place) = o ≡ refused (refusalNu
 abbrev pub BodyTold : Outcome (List Element) → Elements → Type 0
 BodyTold o r = HeldTold o (r .count) (r .records) (r .answer)
 
--- 4 to 6 of pieces, and the layer
+-- 4 to 6, 13 and 14 of pieces, and the layer
 abbrev pub judgedRecords : Settings → List Piece → Outcome Layer
-judgedRecords s ps = andThen (askEach (λ i. judgePiece (Place.Piece i) (pieceAt ps i)) (length ps)) λ _. layerFrom s ps
+judgedRecords s ps = andThen (askEach (λ i. judgeRecord (s .masks) (Place.Piece i) (pieceAt ps i)) (length ps)) λ _. layerFrom s ps
 
 -- elements judged, and the layer
 abbrev pub judgedElements : Settings → List Element → Outcome Layer

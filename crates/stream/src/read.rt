@@ -82,8 +82,9 @@ fn judge_records(settings: Settings, count: usize, records: [Piece; 512]) -> Lay
     ensures { λ r. ⌜ HandedBack (judgedRecords settings (take count records)) r ⌝ }
 {
     let mut flat = [0u32; 2560];
-    layout::flatten(records, count, &mut flat);
-    match layout::judge_pieces(&flat, count) {
+    let mut fixed = [0u8; 512];
+    layout::flatten(records, count, &mut flat, &mut fixed);
+    match layout::judge_each(settings.masks, &flat, &fixed, count) {
         Judgement::Refused(refusal, place) => refuse(refusal, place),
         Judgement::Passed => text::judge_read(settings, count, records),
     }

@@ -15,7 +15,7 @@ use Rattle.rules.specs.Score.{conflictsOf, stitchesOf, scoreOf, pairCost}
 use Rattle.rules.specs.Peeling.{mayGo, peelFor}
 use Rattle.rules.specs.Components.{reachFor, componentsFor}
 use Rattle.rules.specs.Units.{partOf, edgesBetween, spread}
-use Rattle.rules.specs.Search.{added, totalAfter, cheapest, firstAfter, different, candidates, tryMasks, searchPlaces}
+use Rattle.rules.specs.Search.{added, totalAfter, cheapest, firstAfter, firstMask, different, candidates, candidatesIn, tryMasks, searchPlaces}
 use Rattle.rules.specs.Decomposition.{putMasks, searchAll, putBack, putBackAll, decompose, run}
 use Rattle.rules.specs.Lines.{ascii, digitsFor, commaList, line, numberLines, firstLine, afterKey, allDigits, isNumeral, valueAfter, partsOf, numbersOf, lineNumbers, lineOf}
 use Rattle.rules.specs.ResultText.{maskLines, resultText}
@@ -142,7 +142,7 @@ pub record Streams : Type 0 where
   pub small-buffer : decomposeStream [] [] (replicate 4095 0) ≡ refused 1 Place.Nothing
 
 pub streams : Streams
-unfolding sumTo sumPairs sumOf upFrom anyOf countOf keep find settingsInRange pieceInRange hasArea overlapX overlapY gapX gapY squaredGap conflictEdge contact stitchEdge tied edgeOf overlapping conflictsOf stitchesOf scoreOf pairCost mayGo peelFor reachFor componentsFor partOf edgesBetween spread added totalAfter cheapest firstAfter different candidates tryMasks searchPlaces putMasks searchAll putBack putBackAll decompose run ascii digitsFor commaList line numberLines firstLine afterKey allDigits isNumeral valueAfter partsOf numbersOf lineNumbers lineOf maskLines resultText askEach judgePiece judgeOverlaps readLine readNumber readNumbers readHeader isNanometre isRectangle unfilled isDue readRecord passRecords readProperty readElement readElements readStreamElements judgeElement judgeElements readSettings readStream decomposeStream
+unfolding sumTo sumPairs sumOf upFrom anyOf countOf keep find settingsInRange pieceInRange hasArea overlapX overlapY gapX gapY squaredGap conflictEdge contact stitchEdge tied edgeOf overlapping conflictsOf stitchesOf scoreOf pairCost mayGo peelFor reachFor componentsFor partOf edgesBetween spread added totalAfter cheapest firstAfter firstMask different candidates candidatesIn tryMasks searchPlaces putMasks searchAll putBack putBackAll decompose run ascii digitsFor commaList line numberLines firstLine afterKey allDigits isNumeral valueAfter partsOf numbersOf lineNumbers lineOf maskLines resultText askEach judgePiece judgeOverlaps readLine readNumber readNumbers readHeader isNanometre isRectangle unfilled isDue readRecord passRecords readProperty readElement readElements readStreamElements judgeElement judgeElements readSettings readStream decomposeStream
 streams = record {
   reads = refl;
   reads-other-way = refl;

@@ -2,25 +2,27 @@
 -- text, the records and the pieces in their order. A rectangle without a negative coordinate has an area, so 5 never comes; and elements meet the questions that
 -- their pieces meet as lent records. Assumes nothing.
 use mathlib.Core.Bool.{true, false, not}
-use mathlib.Core.List.{List, map}
-use mathlib.Core.Path.{_≡_, refl}
-use Prim.Native.Nat.{ℕ, _<_, min, max}
+use mathlib.Core.List.{List, [], _∷_, map}
+use mathlib.Core.Path.{_≡_, refl, ap}
+use Prim.Native.Nat.{ℕ, zero, suc, _<_, min, max}
 use native.Mathlib.Omega.{arith}
 use borrow.Author.Tests.{eqb-false, lt-ltb, not-true}
 use lib.Dec.{eqb, leb}
 use lib.IntN.{ℤ, pos, negsuc}
-use lib.ListN.{length, getD, length-map, List·getD-map}
+use lib.ListN.{length, getD, length-map}
 use Rattle.rules.specs.declared.layer.Settings.{Settings}
+use Rattle.rules.specs.declared.layer.Piece.{Piece}
 use Rattle.rules.specs.declared.refusal.Place.{Place}
 use Rattle.rules.specs.Settings.{settingsInRange, countInRange, pieceInRange, hasArea, pieceAt}
-use Rattle.rules.specs.Questions.{done, askEach, Layer, Valid, isEmpty, judgePiece, judgeLayer}
+use Rattle.rules.specs.Questions.{Outcome, done, refused, andThen, askEach, Layer, Valid, isEmpty, judgePiece, judgeRecord, judgeRecords, judgeLayer}
 use Rattle.rules.specs.Stream.{Element, same, negative, magnitude, anyNegative, pieceOf, noElement, judgeElement, judgeElements, readSettings, readStream}
 use Rattle.rules.specs.Refusals.{Ends, accepts, LineOf, OfStream, size, form, setting, count, range, overlap}
 use Rattle.rules.proofs.Outcomes.{ends-then, ends-map, ends-ask, ends-each, accepted, each-ext}
 use Rattle.rules.proofs.Reading.{here, header-ends, few}
 use Rattle.stream_theory.proofs.StreamRecords.{Apart, AllApart, stream-elements-end}
 use Rattle.rules.proofs.Tests.{clash, or-false}
-use Rattle.rules.proofs.Validity.{Sound, sound-valid, judged-overlaps}
+use Rattle.rules.proofs.Unfixed.{NoneFixed, none-judged}
+use Rattle.rules.proofs.Validity.{Sound, sound-valid, judged-overlaps, judged-fixed}
 
 -- ---- The settings text
 
@@ -36,8 +38,14 @@ settings-end settings stream =
 -- ---- The pieces
 
 -- the element's piece stands where the element does
-piece-of : (es : List Element) (i : ℕ) → pieceAt (map pieceOf es) i ≡ pieceOf (getD es i noElement)
-piece-of es i = List·getD-map pieceOf es i noElement
+pub piece-of : (es : List Element) (i : ℕ) → i < length es → pieceAt (map pieceOf es) i ≡ pieceOf (getD es i noElement)
+piece-of [] i l = absurd (omega arith)
+piece-of (e ∷ es) zero l = refl
+piece-of (e ∷ es) (suc i) l = piece-of es i (omega arith)
+
+-- a stream fixes no masks
+none-fixed : (es : List Element) → NoneFixed (map pieceOf es)
+none-fixed es i l = ap (λ (p : Piece). p .fixed) (piece-of es i (omega (arith, length-map es pieceOf)))
 
 -- two numbers without a sign that are not the same
 ordered : (a b : ℤ) → negative a ≡ false → negative b ≡ false → same a b ≡ false → min (magnitude a) (magnitude b) < max (magnitude a) (magnitude b)
@@ -89,9 +97,11 @@ judged-elements s settings stream es f a =
     (λ _ d. record {
       settings = f;
       count = rw same-count c;
-      ranges = λ i h. rw piece-of (p i (omega arith) .0);
-      areas = λ i h. rw piece-of (p i (omega arith) .1);
+      ranges = λ i h. let l : i < length es = omega arith in rw (piece-of es i l) (p i l .0);
+      areas = λ i h. let l : i < length es = omega arith in rw (piece-of es i l) (p i l .1);
       apart = d;
+      fixed = λ i h. rw (none-fixed es i h);
+      agree = accepted (judged-fixed {R = λ _ _. Unit {0}} s (map pieceOf es) (λ _ _ _. tt)) (none-judged s (map pieceOf es) (none-fixed es));
     })
     (judged-overlaps (map pieceOf es) (λ j o h. overlap o (omega (arith, few (length es) c))))
 
@@ -111,13 +121,18 @@ stream-valid settings stream l e = sound-valid (l .settings) (l .pieces) (accept
 
 -- ---- Elements, and their pieces as lent records, meet the same questions
 
-elements-alike : (es : List Element) → ((i : ℕ) → i < length es → anyNegative (getD es i noElement) ≡ false)
-    → askEach (λ i. judgeElement (Place.Piece i) (getD es i noElement)) (length es) ≡ askEach (λ i. judgePiece (Place.Piece i) (pieceAt (map pieceOf es) i)) (length es)
-unfolding judgeElement
-elements-alike es n = each-ext (length es) (λ i h. rw (n i h, piece-of))
+elements-alike : (K : ℕ) (es : List Element) → ((i : ℕ) → i < length es → anyNegative (getD es i noElement) ≡ false)
+    → askEach (λ i. judgeElement (Place.Piece i) (getD es i noElement)) (length es) ≡ askEach (λ i. judgeRecord K (Place.Piece i) (pieceAt (map pieceOf es) i)) (length es)
+unfolding judgeElement judgePiece judgeRecord
+elements-alike K es n = each-ext (length es) (λ i h. rw (n i h, piece-of es i h))
 
 -- at settings in range, where no coordinate is negative
 pub lent-alike : (s : Settings) (es : List Element) → settingsInRange s ≡ true → ((i : ℕ) → i < length es → anyNegative (getD es i noElement) ≡ false)
     → judgeElements es ≡ judgeLayer s (map pieceOf es)
-unfolding judgeElements judgeLayer
-lent-alike s es f n = rw (f, length-map es pieceOf, elements-alike es n)
+unfolding judgeElements judgeLayer judgeRecords
+lent-alike s es f n =
+    rw (f, length-map es pieceOf, elements-alike (s .masks) es n, none-judged s (map pieceOf es) (none-fixed es)) (no-more _)
+  where
+    no-more : (o : Outcome (Unit {0})) → o ≡ (andThen o λ _. done tt)
+    no-more (done tt) = refl
+    no-more (refused number place) = refl

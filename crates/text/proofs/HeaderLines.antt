@@ -2,7 +2,6 @@
 -- the rules judge it; and the lines are read one after the other. Assumes nothing.
 use mathlib.Core.Bool.{true, false}
 use mathlib.Core.List.{List, [], _∷_, _++_, append-nil}
-use mathlib.Core.Option.{none, some}
 use mathlib.Core.Path.{_≡_, refl, sym, ap, ap₂, _∙_}
 use Prim.Native.Nat.{ℕ, suc, _+_, _≤_, _<_, min, zero-le}
 use native.Mathlib.Numerals.{add-one}
@@ -15,24 +14,15 @@ use Rattle.rules.specs.Answers.{refusalNumber}
 use Rattle.rules.specs.Lines.{NumbersRead, lineOf}
 use Rattle.rules.specs.LayerText.{NumberLine, headerLines}
 use Rattle.rules.specs.Settings.{within}
-use Rattle.rules.specs.Questions.{Outcome, done, refused, andThen, readLine, NumberRead, readNumber, readNumbers, settingsFrom, headerFrom, readHeader}
+use Rattle.rules.specs.Questions.{Outcome, done, refused, andThen, readNumber, readNumbers, settingsFrom, headerFrom, readHeader}
 use Rattle.lines.specs.declared.read.Line.{Line}
 use Rattle.lines.specs.ReadLines.{cap, lineRead}
 use Rattle.lines.proofs.Cap.{cap-range, cap-same}
 use Rattle.lines.proofs.GoodLines.{GoodLine, bad-line, good-line}
+use Rattle.text_theory.proofs.WrittenLines.{line-none, line-some}
 use Rattle.text.specs.declared.header.NumberAnswer.{NumberAnswer}
 use Rattle.text.specs.declared.header.HeaderAnswer.{HeaderAnswer}
 use Rattle.text.specs.Header.{headerLine, numberAnswer, NumberFound, HeaderFound}
-
--- ---- A line
-
-pub line-none : (key : List ℕ) (count lineNo : ℕ) (text : List ℕ) → lineOf key count text ≡ none → readLine key count lineNo text ≡ refused 3 (Place.Line lineNo)
-unfolding readLine
-line-none key count lineNo text e = rw (e, readLine)
-
-pub line-some : (key : List ℕ) (count lineNo : ℕ) (text : List ℕ) (l : NumbersRead) → lineOf key count text ≡ some l → readLine key count lineNo text ≡ done l
-unfolding readLine
-line-some key count lineNo text l e = rw (e, readLine)
 
 -- ---- A line with one number
 

@@ -1,4 +1,4 @@
-// A layer text read: questions 2 to 6.
+// A layer text read: questions 2 to 6, 13 and 14.
 ghost use mathlib.Core.Path.{_≡_};
 ghost use Prim.Native.Nat.{_≤_};
 ghost use lib.ListN.{take};
@@ -6,9 +6,10 @@ ghost use Rattle.rules.specs.Answers.{refusalNumber, inRecords, HandedBack};
 ghost use Rattle.rules.specs.Questions.{refused, layerFrom, readBody, readLayer};
 use crate::header::HeaderAnswer;
 use crate::header::read_header;
-use crate::overlaps::judge_overlaps;
-use crate::pieces::no_pieces;
-use crate::pieces::read_pieces;
+use crate::judging::judge_layer;
+use piece_lines::no_pieces;
+use piece_lines::read_all_fixed;
+use piece_lines::read_pieces;
 use rules::LayerRead;
 use rules::Piece;
 use rules::Place;
@@ -36,13 +37,13 @@ pub fn refuse(refusal: Refusal, place: Place) -> LayerRead
     }
 }
 
-// Pieces that were read with nothing after them: overlaps, then the layer.
+// Pieces that were read: overlaps, fixed masks of a unit, then the layer.
 pub fn judge_read(settings: Settings, count: usize, pieces: [Piece; 512]) -> LayerRead
     requires { ⌜ count ≤ 512 ⌝ }
     requires { ⌜ pieces ≡ inRecords (take count pieces) ⌝ }
     ensures { λ r. ⌜ HandedBack (layerFrom settings (take count pieces)) r ⌝ }
 {
-    match judge_overlaps(pieces, count) {
+    match judge_layer(settings, pieces, count) {
         ReadAnswer::Refused(refusal, place) => refuse(refusal, place),
         ReadAnswer::Read => LayerRead {
             answer: ReadAnswer::Read,
@@ -53,9 +54,9 @@ pub fn judge_read(settings: Settings, count: usize, pieces: [Piece; 512]) -> Lay
     }
 }
 
-// The text after the six lines: the pieces, nothing after them, overlaps.
+// The text after the six lines: the pieces, the lines that fix masks, and the judgement.
 fn read_body(text: &[u8], settings: Settings, count: usize) -> LayerRead
-    requires { ⌜ count ≤ 512 ⌝ }
+    requires { ⌜ (count ≤ 512) × (settings .masks ≤ 8) ⌝ }
     ensures { λ r. ⌜ HandedBack (readBody settings count (now (text .entry))) r ⌝ }
 {
     let found = read_pieces(text, count);
@@ -63,11 +64,15 @@ fn read_body(text: &[u8], settings: Settings, count: usize) -> LayerRead
     if let ReadAnswer::Refused(refusal, place) = answer {
         return refuse(refusal, place);
     }
-    if found.bytes < text.len() {
-        return refuse(Refusal::Form, Place::Line((count as u32) + 7));
-    }
+    let bytes = found.bytes;
     let pieces = found.records;
-    judge_read(settings, count, pieces)
+    let fixed = read_all_fixed(&text[bytes..], count, settings.masks, pieces);
+    let answer = fixed.answer;
+    if let ReadAnswer::Refused(refusal, place) = answer {
+        return refuse(refusal, place);
+    }
+    let records = fixed.records;
+    judge_read(settings, count, records)
 }
 
 // The layer that a text states, or the first refusal.

@@ -2,7 +2,7 @@
 -- has on that unit, so 12 passes. The other way: 8 and 12 passed, so each unit can be given the mask of its lowest set piece, or mask 0 where none is set
 -- (`filled`); that breaks no tie, is below K, and is what the set pieces have. An assignment is half done with nothing missing (`whole-half-done`), and in its score
 -- every edge counts (`whole-counts`).
-use mathlib.Core.Bool.{Bool, true, not, cond, _&&_, _||_}
+use mathlib.Core.Bool.{Bool, true, not, cond, _||_}
 use mathlib.Core.List.{List, map}
 use mathlib.Core.Logic.{_↔_}
 use mathlib.Core.Path.{_≡_, refl, sym, ap, _∙_}
@@ -21,12 +21,12 @@ use Rattle.rules.specs.Units.{unitOf, lowestSet, fitsUnit}
 use Rattle.rules.specs.Questions.{done, ask, askEach, judgeLayer, Valid}
 use Rattle.rules.specs.Calls.{scoreMasks}
 use Rattle.rules.specs.Demands.{Assignment, Extends, HalfDone, EachEdge, layerScoring}
-use Rattle.rules.proofs.Finding.{find-one}
-use Rattle.rules.proofs.Lists.{any-found, in-upTo, length-upTo, mapped-upTo}
+use Rattle.rules.proofs.Lists.{length-upTo, mapped-upTo}
 use Rattle.rules.proofs.Outcomes.{ends-ask, ends-each, accepted, each-passes, then-with, ask-yes}
 use Rattle.rules.proofs.Ranges.{settings-facts}
-use Rattle.rules.proofs.Tests.{by-test, both}
+use Rattle.rules.proofs.Tests.{by-test}
 use Rattle.rules.proofs.Validity.{valid-sound}
+use Rattle.theory.proofs.FixedUnits.{lowest-of}
 use Rattle.theory.proofs.HalfDone.{AllSet, below-set, whole-conflicts, whole-stitches}
 use Rattle.theory.proofs.Units.{unit-keeps, tied-unit}
 
@@ -64,20 +64,6 @@ module _ (s : Settings) (ps : List Piece) (masks : List ℕ) where
   abbrev lowest : ℕ → ℕ
   lowest u = lowestSet (unitOf s ps) (length ps) masks u
 
-  -- of a piece that is set
-  record Lowest (i : ℕ) : Type 0 where
-    inside : lowest (unitOf s ps i) < length ps
-    isOne : isSet masks (lowest (unitOf s ps i)) ≡ true
-    unit : unitOf s ps (lowest (unitOf s ps i)) ≡ unitOf s ps i
-
-  lowest-of : (i : ℕ) → i < length ps → isSet masks i ≡ true → Lowest i
-  lowest-of i l e =
-      let u = unitOf s ps i in
-      let some = any-found (λ j. isSet masks j && eqb (unitOf s ps j) u) (length ps) l (rw (e, eq-eqb u u refl)) in
-      let found = find-one (λ j. isSet masks j && eqb (unitOf s ps j) u) u (upTo (length ps)) some in
-      let passes = both (isSet masks (lowest u)) _ (found .1) in
-      record { inside = in-upTo (length ps) (lowest u) .0 (found .0); isOne = passes .0; unit = eqb-true _ _ (passes .1) }
-
   -- ---- Half done masks pass
 
   module _ (h : HalfDone s ps masks) where
@@ -92,10 +78,10 @@ module _ (s : Settings) (ps : List Piece) (masks : List ℕ) where
     half-fits i l =
         by-test (isSet masks i)
         (λ e.
-        let low = lowest-of i l e in
+        let low = lowest-of (unitOf s ps) (length ps) masks i l e in
         let j = lowest (unitOf s ps i) in
         let one : maskOf masks i ≡ maskOf masks j
-        = sym (h .extends i l e) ∙ unit-keeps s ps (maskOf (h .whole)) (h .assignment .ties) i j l (low .inside) (sym (low .unit)) ∙ h .extends j (low .inside) (low .isOne) in
+        = sym (h .extends i l e) ∙ unit-keeps s ps (maskOf (h .whole)) (h .assignment .ties) i j l (low .inside) (sym (low .own)) ∙ h .extends j (low .inside) (low .isOne) in
         rw e (eq-eqb (maskOf masks i) (maskOf masks j) one))
         (λ e. rw e)
 

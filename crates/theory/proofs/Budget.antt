@@ -10,7 +10,7 @@ use Prim.Native.Nat.{ℕ, zero, suc, _+_, _≤_, _<_, _-_}
 use native.Mathlib.Nat.{le-refl, le-trans, le-of-eq, add-suc, not-suc-le-zero, add-zero}
 use native.Mathlib.Omega.{arith}
 use Rattle.rules.specs.Edges.{Graph}
-use Rattle.rules.specs.Search.{added, total, firstAfter, candidates, State, state, step, hold, Next, tryMasks, searchPlaces, searchFrom}
+use Rattle.rules.specs.Search.{added, total, firstAfter, firstMask, candidatesIn, State, state, step, hold, Next, tryMasks, searchPlaces, searchFrom}
 use Rattle.rules.proofs.Tests.{clash}
 use Rattle.theory.proofs.Search.{at-stop, at-enter, at-skip, by-tests, search-meters, tries-falls, search-falls, Stopped, tries-stopped, search-stopped}
 
@@ -112,34 +112,34 @@ search-later add cands a b (suc k) p c s = tries-later add a b (searchPlaces add
 -- ---- The search of a component
 
 -- the state that it starts from: the first assignment
-abbrev pub start : ℕ → ℕ → Graph → ℕ → ℕ → Bool → State
-start K weight g k steps stopped =
-    let first = firstAfter (added weight g) K k [] in
+abbrev pub start : ℕ → ℕ → Graph → (ℕ → ℕ) → ℕ → ℕ → Bool → State
+start K weight g fixed k steps stopped =
+    let first = firstAfter (firstMask (added weight g) K fixed) k [] in
     state steps stopped (total (added weight g) first) first
 
-module _ (K weight : ℕ) (g : Graph) where
+module _ (K weight : ℕ) (g : Graph) (fixed : ℕ → ℕ) where
   -- stopped before it, it ends where it starts
-  pub from-stopped : {budget steps : ℕ} {stopped : Bool} (k : ℕ) → 0 < k → Stopped budget steps stopped → searchFrom K weight budget g k steps stopped ≡ start K weight g k steps stopped
+  pub from-stopped : {budget steps : ℕ} {stopped : Bool} (k : ℕ) → 0 < k → Stopped budget steps stopped → searchFrom K weight budget g fixed k steps stopped ≡ start K weight g fixed k steps stopped
   from-stopped zero z h = absurd (not-suc-le-zero z)
-  from-stopped {budget} {steps} {stopped} (suc k) z h = search-stopped (added weight g) (candidates K) budget k [] 0 (start K weight g (suc k) steps stopped) h
+  from-stopped {budget} {steps} {stopped} (suc k) z h = search-stopped (added weight g) (candidatesIn K fixed (suc k)) budget k [] 0 (start K weight g fixed (suc k) steps stopped) h
 
   -- two runs of it at budgets b₁ ≤ b₂, from meters that agree or with the first stopped
-  pub from-larger : {b₁ b₂ : ℕ} → b₁ ≤ b₂ → (k : ℕ) {n₁ n₂ : ℕ} {t₁ t₂ : Bool} → Abreast b₁ n₁ t₁ n₂ t₂ → Larger b₁ (searchFrom K weight b₁ g k n₁ t₁) (searchFrom K weight b₂ g k n₂ t₂)
-  from-larger {b₁} {b₂} le k {n₁} {n₂} {t₁} {t₂} a = ahead-larger (search-ahead (added weight g) (candidates K) b₁ b₂ le k [] 0 (start K weight g k n₁ t₁) (start K weight g k n₂ t₂) (go a))
+  pub from-larger : {b₁ b₂ : ℕ} → b₁ ≤ b₂ → (k : ℕ) {n₁ n₂ : ℕ} {t₁ t₂ : Bool} → Abreast b₁ n₁ t₁ n₂ t₂ → Larger b₁ (searchFrom K weight b₁ g fixed k n₁ t₁) (searchFrom K weight b₂ g fixed k n₂ t₂)
+  from-larger {b₁} {b₂} le k {n₁} {n₂} {t₁} {t₂} a = ahead-larger (search-ahead (added weight g) (candidatesIn K fixed k) b₁ b₂ le k [] 0 (start K weight g fixed k n₁ t₁) (start K weight g fixed k n₂ t₂) (go a))
     where
-      go : Abreast b₁ n₁ t₁ n₂ t₂ → Ahead b₁ (start K weight g k n₁ t₁) (start K weight g k n₂ t₂)
+      go : Abreast b₁ n₁ t₁ n₂ t₂ → Ahead b₁ (start K weight g fixed k n₁ t₁) (start K weight g fixed k n₂ t₂)
       go (inl e) = inl (rw (e .0, e .1))
-      go (inr h) = inr (h, le-refl (start K weight g k n₂ t₂ .cost))
+      go (inr h) = inr (h, le-refl (start K weight g fixed k n₂ t₂ .cost))
 
   -- A search that is not stopped does not depend on the steps taken before it: it ends as it does from no steps, with as many steps more.
-  pub from-alone : {budget steps : ℕ} (k : ℕ) → steps ≤ budget → searchFrom K weight budget g k steps false .stopped ≡ false
-      → searchFrom K weight budget g k steps false ≡ later steps (searchFrom K weight budget g k 0 false)
+  pub from-alone : {budget steps : ℕ} (k : ℕ) → steps ≤ budget → searchFrom K weight budget g fixed k steps false .stopped ≡ false
+      → searchFrom K weight budget g fixed k steps false ≡ later steps (searchFrom K weight budget g fixed k 0 false)
   from-alone {budget} {steps} k h e =
       let left = budget - steps in
       let whole : steps + left ≡ budget = omega arith in
-      let moved : searchFrom K weight budget g k steps false ≡ later steps (searchFrom K weight left g k 0 false)
-      = subst₂ (λ (b n : ℕ). searchFrom K weight b g k n false ≡ later steps (searchFrom K weight left g k 0 false)) whole (add-zero steps)
-      (search-later (added weight g) (candidates K) steps left k [] 0 (start K weight g k 0 false)) in
-      let ran : searchFrom K weight left g k 0 false .stopped ≡ false = sym (ap (λ (s : State). s .stopped) moved) ∙ e in
+      let moved : searchFrom K weight budget g fixed k steps false ≡ later steps (searchFrom K weight left g fixed k 0 false)
+      = subst₂ (λ (b n : ℕ). searchFrom K weight b g fixed k n false ≡ later steps (searchFrom K weight left g fixed k 0 false)) whole (add-zero steps)
+      (search-later (added weight g) (candidatesIn K fixed k) steps left k [] 0 (start K weight g fixed k 0 false)) in
+      let ran : searchFrom K weight left g fixed k 0 false .stopped ≡ false = sym (ap (λ (s : State). s .stopped) moved) ∙ e in
       let same = from-larger {b₁ = left} {b₂ = budget} (omega arith) k (inl (refl, refl)) .same ran in
       moved ∙ ap (later steps) (sym same)

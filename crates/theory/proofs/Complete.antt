@@ -12,7 +12,7 @@ use native.Mathlib.Omega.{arith}
 use lib.ListN.{length}
 use borrow.Author.Tests.{lt-ltb, le-ltb}
 use Rattle.rules.specs.Edges.{Graph}
-use Rattle.rules.specs.Search.{added, total, firstAfter, candidates, State, state, step, hold, Next, tryMasks, searchPlaces, searchFrom, Progress, progress, further, completeMasks, completePlaces, completeFrom}
+use Rattle.rules.specs.Search.{added, total, firstAfter, firstMask, candidatesIn, State, state, step, hold, Next, tryMasks, searchPlaces, searchFrom, Progress, progress, further, completeMasks, completePlaces, completeFrom}
 use Rattle.rules.proofs.Tests.{lt-or-ge}
 use Rattle.theory.proofs.Search.{by-tests, tries-stopped}
 use Rattle.theory.proofs.Budget.{start}
@@ -136,17 +136,17 @@ module _ (add : List ℕ → ℕ → ℕ) (cands : List ℕ → List ℕ) (b : �
 abbrev pub Keeps : ℕ → ℕ → Bool → ℕ → Type 0
 Keeps b steps stopped n = ((n ≤ b) × (steps ≡ n) × (stopped ≡ false)) ⊎ Short b steps stopped n
 
-module _ (K weight : ℕ) (g : Graph) where
+module _ (K weight : ℕ) (g : Graph) (fixed : ℕ → ℕ) where
   -- from meters that keep with n steps, it follows the complete search after n steps
-  pub from-follows : {b steps n : ℕ} {stopped : Bool} (k : ℕ) → Keeps b steps stopped n → Follows b (searchFrom K weight b g k steps stopped) (furtherBy n (completeFrom K weight g k))
+  pub from-follows : {b steps n : ℕ} {stopped : Bool} (k : ℕ) → Keeps b steps stopped n → Follows b (searchFrom K weight b g fixed k steps stopped) (furtherBy n (completeFrom K weight g fixed k))
   from-follows {b} {steps} {n} {stopped} k keeps =
-      subst (λ (y : Progress). Follows b (searchFrom K weight b g k steps stopped) y)
-      (rw (add-zero n) at (complete-later (added weight g) (candidates K) n k [] 0 first))
-      (search-follows (added weight g) (candidates K) b k [] 0 (start K weight g k steps stopped) (progress n (first .cost) (first .incumbent)) (go keeps))
+      subst (λ (y : Progress). Follows b (searchFrom K weight b g fixed k steps stopped) y)
+      (rw (add-zero n) at (complete-later (added weight g) (candidatesIn K fixed k) n k [] 0 first))
+      (search-follows (added weight g) (candidatesIn K fixed k) b k [] 0 (start K weight g fixed k steps stopped) (progress n (first .cost) (first .incumbent)) (go keeps))
     where
       first : Progress
-      first = let q = firstAfter (added weight g) K k [] in progress 0 (total (added weight g) q) q
+      first = let q = firstAfter (firstMask (added weight g) K fixed) k [] in progress 0 (total (added weight g) q) q
 
-      go : Keeps b steps stopped n → Follows b (start K weight g k steps stopped) (progress n (first .cost) (first .incumbent))
+      go : Keeps b steps stopped n → Follows b (start K weight g fixed k steps stopped) (progress n (first .cost) (first .incumbent))
       go (inl e) = inl (e .0, rw (e .1, e .2))
       go (inr s) = inr s

@@ -6,7 +6,6 @@ use native.Mathlib.Nat.{not-suc-le-zero, le-of-suc-le-suc}
 use native.Mathlib.Omega.{arith}
 use lib.ListN.{length, getD}
 use Rattle.rules.specs.Basics.{upFrom}
-use Rattle.rules.proofs.Lists.{_∈_, none-in, each-cons, here, later}
 
 -- every number of the list has the property
 abbrev pub Each : (ℕ → Type 0) → List ℕ → Type 0
@@ -50,12 +49,3 @@ pub getD-map : (f : ℕ → ℕ) (p : List ℕ) (i : ℕ) → i < length p → g
 getD-map f [] i h = absurd (not-suc-le-zero h)
 getD-map f (x ∷ p) zero h = refl
 getD-map f (x ∷ p) (suc i) h = getD-map f p i (le-of-suc-le-suc h)
-
--- what holds of each image holds of the image of each member, and the other way round
-pub each-image : (P : ℕ → Type 0) (a : ℕ → ℕ) (xs : List ℕ) → Each P (map a xs) → (u : ℕ) → u ∈ xs → P (a u)
-each-image P a [] h u m = none-in m
-each-image P a (x ∷ xs) h u m = each-cons {Q = λ u. P (a u)} (h .0) (each-image P a xs (h .1)) u m
-
-pub image-each : (P : ℕ → Type 0) (a : ℕ → ℕ) (xs : List ℕ) → ((u : ℕ) → u ∈ xs → P (a u)) → Each P (map a xs)
-image-each P a [] h = tt
-image-each P a (x ∷ xs) h = (h x (here refl), image-each P a xs (λ u m. h u (later m)))

@@ -13,7 +13,8 @@ use lib.Seq.{getD-set-other}
 use borrow.Author.Tests.{ne-eqb}
 use Rattle.rules.specs.Basics.{given, sumPairs}
 use Rattle.rules.specs.Edges.{Graph}
-use Rattle.rules.specs.Score.{maskOf, sameMask, unset, isSet, together, apart, conflictsOf, stitchesOf, scoreOf}
+use Rattle.rules.specs.Settings.{unset}
+use Rattle.rules.specs.Score.{maskOf, sameMask, isSet, together, apart, conflictsOf, stitchesOf, scoreOf}
 use Rattle.rules.specs.Demands.{Extends, AtMost}
 use Rattle.rules.proofs.Sums.{pairs-ext, pairs-mono}
 use Rattle.rules.proofs.Tests.{by-test, clash, both, and-left}

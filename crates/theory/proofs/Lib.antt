@@ -10,6 +10,7 @@ pub mod Components
 pub mod Search
 pub mod Budget
 pub mod Complete
+pub mod Fixed
 pub mod Renaming
 pub mod SameCost
 pub mod SearchAll
@@ -19,6 +20,7 @@ pub mod EdgeLists
 pub mod SameEdges
 pub mod Parts
 pub mod Merging
+pub mod FixedUnits
 pub mod Units
 pub mod Assignments
 pub mod Demand3

@@ -1,4 +1,4 @@
--- Peeling, components and putting back ask only who is whose neighbour, and that only of the vertices given. So each stage but the search may be
+-- Peeling, components and putting back ask only who is whose neighbour and who has a fixed mask, and that only of the vertices given. So each stage but the search may be
 -- done on any graph with the same neighbours among them (`decompose-stages`), as one that adjacency words hold, whatever the number of edges between two
 -- vertices. Only the search sees how many edges there are.
 use mathlib.Core.Bool.{Bool, false, not, _&&_}
@@ -37,33 +37,40 @@ count-same f h xs e = sym (length-keep f xs) ∙ ap length (keep-same f h xs e) 
 
 -- ---- Peeling
 
-module _ (K : ℕ) {g h : Graph} where
-  module _ {there : List ℕ} (s : SameNeighbours g h there) {v : ℕ} (i : v ∈ there) where
+-- the same vertices of vs have the same fixed masks
+abbrev pub SameFixed : (ℕ → ℕ) → (ℕ → ℕ) → List ℕ → Type 0
+SameFixed fixed fixed′ vs = (v : ℕ) → v ∈ vs → fixed v ≡ fixed′ v
+
+module _ (K : ℕ) {g h : Graph} (fixed fixed′ : ℕ → ℕ) where
+  module _ {there : List ℕ} (s : SameNeighbours g h there) (f : SameFixed fixed fixed′ there) {v : ℕ} (i : v ∈ there) where
     conflicts-same : conflictDegree g there v ≡ conflictDegree h there v
     conflicts-same = count-same (inConflict g v) (inConflict h v) there (λ u m. s .conflict v u i m)
 
     stitches-same : stitchDegree g there v ≡ stitchDegree h there v
     stitches-same = count-same (inStitch g v) (inStitch h v) there (λ u m. s .stitch v u i m)
 
-    may-same : mayGo K g there v ≡ mayGo K h there v
+    may-same : mayGo K g fixed there v ≡ mayGo K h fixed′ there v
     unfolding mayGo
-    may-same = rw (conflicts-same, stitches-same)
+    may-same = rw (conflicts-same, stitches-same, f v i)
 
     removal-same : removalOf K g there v ≡ removalOf K h there v
     removal-same = rw (conflicts-same, stitches-same, find-same (inStitch g v) (inStitch h v) there (λ u m. s .stitch v u i m))
 
-  pub peel-same : (rounds : ℕ) (there : List ℕ) → SameNeighbours g h there → peelFor rounds K g there ≡ peelFor rounds K h there
+  pub peel-same : (rounds : ℕ) (there : List ℕ) → SameNeighbours g h there → SameFixed fixed fixed′ there → peelFor rounds K g fixed there ≡ peelFor rounds K h fixed′ there
   unfolding peelFor
-  peel-same zero there s = refl
-  peel-same (suc rounds) there s =
-      let e : find (mayGo K g there) there ≡ find (mayGo K h there) there = find-same (mayGo K g there) (mayGo K h there) there (λ u m. may-same s m) in
-      by-found (find (mayGo K h there) there)
+  peel-same zero there s f = refl
+  peel-same (suc rounds) there s f =
+      let may = mayGo K g fixed there in
+      let may′ = mayGo K h fixed′ there in
+      let e : find may there ≡ find may′ there = find-same may may′ there (λ u m. may-same s f m) in
+      by-found (find may′ there)
       (λ q. rw (e, q, peelFor))
       (λ v q.
-      let i = first-in (find-first (mayGo K h there) there q) in
-      let rest = peel-same rounds (without v there) (same-among (λ u m. without-in v there m .0) s) in
+      let i = first-in (find-first may′ there q) in
+      let stays : (u : ℕ) → u ∈ without v there → u ∈ there = λ u m. without-in v there m .0 in
+      let rest = peel-same rounds (without v there) (same-among stays s) (λ u m. f u (stays u m)) in
       rw (e, q, peelFor)
-      (ap₂ (λ (r : Removal) (p : Peeled). goes r p) (removal-same s i) rest))
+      (ap₂ (λ (r : Removal) (p : Peeled). goes r p) (removal-same s f i) rest))
     where
       goes : Removal → Peeled → Peeled
       goes r p = record { removed = r ∷ p .removed; core = p .core }
@@ -143,20 +150,21 @@ module _ (K : ℕ) {g h : Graph} {vs : List ℕ} (s : SameNeighbours g h vs) whe
 -- ---- The whole
 
 -- the stages of the decomposition, with the neighbours of h and the edges of g
-abbrev pub stages : ℕ → ℕ → ℕ → Graph → Graph → List ℕ → List ℕ → Reached
-stages K W budget h g vs masks =
-    let peeled = peel K h vs in
-    let searched = searchAll K W budget g (components h (peeled .core)) (record { steps = 0; stopped = false; masks = masks }) in
+abbrev pub stages : ℕ → ℕ → ℕ → Graph → Graph → (ℕ → ℕ) → List ℕ → List ℕ → Reached
+stages K W budget h g fixed vs masks =
+    let peeled = peel K h fixed vs in
+    let searched = searchAll K W budget g fixed (components h (peeled .core)) (record { steps = 0; stopped = false; masks = masks }) in
     record { steps = searched .steps; stopped = searched .stopped; masks = withReturned K h peeled (searched .masks) }
 
-pub decompose-stages : (K W budget : ℕ) {g h : Graph} (vs masks : List ℕ) → SameNeighbours g h vs → decompose K W budget g vs masks ≡ stages K W budget h g vs masks
+pub decompose-stages : (K W budget : ℕ) {g h : Graph} (fixed : ℕ → ℕ) (vs masks : List ℕ) → SameNeighbours g h vs
+    → decompose K W budget g fixed vs masks ≡ stages K W budget h g fixed vs masks
 unfolding decompose
-decompose-stages K W budget {g} {h} vs masks s =
-    let p = parts K h (length vs) vs in
-    let peeled = peel K h vs in
+decompose-stages K W budget {g} {h} fixed vs masks s =
+    let p = parts K h fixed (length vs) vs in
+    let peeled = peel K h fixed vs in
     let inner = same-among (p .core-in) s in
-    let found = searchAll K W budget g (components h (peeled .core)) (record { steps = 0; stopped = false; masks = masks }) in
-    ap (λ (q : Peeled). rest g (components g (q .core)) q) (peel-same K (length vs) vs s)
+    let found = searchAll K W budget g fixed (components h (peeled .core)) (record { steps = 0; stopped = false; masks = masks }) in
+    ap (λ (q : Peeled). rest g (components g (q .core)) q) (peel-same K fixed fixed (length vs) vs s (λ v m. refl))
     ∙ ap (λ (cs : List (List ℕ)). rest g cs peeled) (components-same (peeled .core) (joined-same inner))
     ∙ ap (λ (placed : Placed). done found placed) (put-all-same K s (peeled .removed) (record { there = peeled .core; masks = found .masks }) (p .gone-in) (p .core-in))
   where
@@ -165,5 +173,5 @@ decompose-stages K W budget {g} {h} vs masks s =
 
     rest : Graph → List (List ℕ) → Peeled → Reached
     rest k cs q =
-        let r = searchAll K W budget g cs (record { steps = 0; stopped = false; masks = masks }) in
+        let r = searchAll K W budget g fixed cs (record { steps = 0; stopped = false; masks = masks }) in
         done r (putBackAll K k (q .removed) (record { there = q .core; masks = r .masks }))

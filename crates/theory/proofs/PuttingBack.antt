@@ -2,7 +2,7 @@
 -- them still holds. A vertex removed by (A) has fewer conflict neighbours among them than there are masks, so some mask is free (pigeonhole), and no
 -- stitch neighbour; one removed by (B) has no conflict neighbour, and takes the mask of its only stitch neighbour. Either way its mask costs
 -- nothing against those present (`Fits`), and one round of putting back keeps all that is claimed (`one-back`); peeling's induction does the rest.
-use mathlib.Core.Bool.{Bool, true, false, not, _&&_, and-eq-true-iff}
+use mathlib.Core.Bool.{Bool, true, false, not, _&&_, _||_, and-eq-true-iff}
 use mathlib.Core.List.{List, _∷_}
 use mathlib.Core.Logic.{⊎-elim, Iff·rfl}
 use mathlib.Core.Option.{Option, none, some}
@@ -16,11 +16,11 @@ use borrow.Author.Tests.{eqb-true, eq-eqb, ltb-true, not-true, not-false}
 use Rattle.rules.specs.Basics.{upTo, anyOf, keep, find, foundOr, without}
 use Rattle.rules.specs.Edges.{Graph, inConflict, inStitch, joined}
 use Rattle.rules.specs.Score.{maskOf, pairCost}
-use Rattle.rules.specs.Peeling.{conflictDegree, stitchDegree, lowDegree, isPendant, mayGo, removalOf, Peeled, peelFor}
+use Rattle.rules.specs.Peeling.{conflictDegree, stitchDegree, lowDegree, isPendant, isFixed, mayGo, removalOf, Peeled, peelFor}
 use Rattle.rules.specs.Decomposition.{Placed, freeMask, putBack, putBackAll}
 use Rattle.rules.proofs.Edges.{Undirected}
 use Rattle.rules.proofs.Lists.{_∈_, here, later, here-or-later, equal-in, any-in, any-out, in-keep, in-upTo, in-without, without-in, without-or, first-in, find-first, find-none, Distinct, Same, distinct-without, length-keep, count-none, none-count, count-two, pigeonhole}
-use Rattle.rules.proofs.Tests.{by-test, clash, or-false}
+use Rattle.rules.proofs.Tests.{by-test, clash, or-false, and-right}
 use Rattle.theory.proofs.Cost.{costIn, cost-same, cost-without, pair-free, sum-zero}
 use Rattle.theory.proofs.Peeling.{peel-induction, parts}
 
@@ -126,13 +126,14 @@ module _ (K : ℕ) {g : Graph} (undirected : Undirected g) (v : ℕ) (there : Li
             }
 
   -- whichever rule removed v, the mask it takes fits
-  takes : (b : Placed) → Same (b .there) (without v there) → mayGo K g there v ≡ true → joined g v v ≡ false
+  takes : (fixed : ℕ → ℕ) (b : Placed) → Same (b .there) (without v there) → mayGo K g fixed there v ≡ true → joined g v v ≡ false
       → (m : ℕ) × Fits K g (without v there) (maskOf (b .masks)) v m × (putBack K g (removalOf K g there v) b ≡ record { there = v ∷ b .there; masks = set (b .masks) v m })
   unfolding putBack mayGo
-  takes b present goes loop =
+  takes fixed b present goes loop =
+      let either = and-right (not (isFixed fixed v)) (lowDegree K g there v || isPendant g there v) goes in
       by-test (lowDegree K g there v)
       (λ e. (freeMask K g b v, free-fits e b present, rw e))
-      (λ e. (maskOf (b .masks) (foundOr v (find (inStitch g v) there)), pendant-fits (rw (e, mayGo) at goes) loop (maskOf (b .masks)), rw e))
+      (λ e. (maskOf (b .masks) (foundOr v (find (inStitch g v) there)), pendant-fits (rw e at either) loop (maskOf (b .masks)), rw e))
 
   -- one vertex returns
   one-back : {core masks : List ℕ} {b : Placed} {m : ℕ} → v ∈ there → Distinct there → v < length masks → ((u : ℕ) → u ∈ core → u ∈ without v there)
@@ -165,13 +166,13 @@ module _ (K : ℕ) {g : Graph} (undirected : Undirected g) (v : ℕ) (there : Li
 abbrev back : ℕ → Graph → List ℕ → Peeled → Placed
 back K g masks p = putBackAll K g (p .removed) (record { there = p .core; masks = masks })
 
-module _ (K : ℕ) {g : Graph} (undirected : Undirected g) (masks : List ℕ) where
+module _ (K : ℕ) {g : Graph} (undirected : Undirected g) (fixed : ℕ → ℕ) (masks : List ℕ) where
   pub returned : (rounds : ℕ) (there : List ℕ) → Ready g masks there
-      → let peeled = peelFor rounds K g there in
+      → let peeled = peelFor rounds K g fixed there in
       Returned K g there (peeled .core) masks (putBackAll K g (peeled .removed) (record { there = peeled .core; masks = masks }))
   unfolding putBackAll
   returned =
-      peel-induction K g (λ there p. Ready g masks there → Returned K g there (p .core) masks (back K g masks p))
+      peel-induction K g fixed (λ there p. Ready g masks there → Returned K g there (p .core) masks (back K g masks p))
       (λ there r. record {
         size = refl;
         members = λ u. Iff·rfl;
@@ -182,8 +183,8 @@ module _ (K : ℕ) {g : Graph} (undirected : Undirected g) (masks : List ℕ) wh
         cost = λ W. refl;
       })
       (λ rounds there v first ih r.
-      let rest = peelFor rounds K g (without v there) in
+      let rest = peelFor rounds K g fixed (without v there) in
       let old = ih (ready-without v r) in
       let i = first-in first in
-      let t = takes K undirected v there (back K g masks rest) (old .members) (first .pass) (r .loopless v i) in
-      rw (t .2) (one-back K undirected v there i (r .distinct) (r .placed v i) (parts K g rounds (without v there) .core-in) old (t .1)))
+      let t = takes K undirected v there fixed (back K g masks rest) (old .members) (first .pass) (r .loopless v i) in
+      rw (t .2) (one-back K undirected v there i (r .distinct) (r .placed v i) (parts K g fixed rounds (without v there) .core-in) old (t .1)))

@@ -1,6 +1,7 @@
 -- The search tries after p only masks in use and the lowest one not in use. That loses nothing: an assignment whose next mask is a higher one costs the same
 -- with those two masks exchanged from there on, since a cost asks only which places have the same mask. So every assignment to K masks has one of the same
--- cost that the candidates allow (`renaming`), and a search that was not stopped holds a cheapest one (`from-cheapest`).
+-- cost that the candidates allow (`renaming`). Where a place is fixed masks are not exchanged, and the search tries all that the places may have. Either way a
+-- search that was not stopped holds a cheapest one (`from-cheapest`).
 use mathlib.Core.Bool.{Bool, true, false, not, cond, or-true, or-false}
 use mathlib.Core.Path.{_≡_, refl, sym, ap, subst, _∙_}
 use mathlib.Core.List.{List, [], _∷_, _++_, map, map-append, map-map, map-id, List·Memᴰ}
@@ -10,31 +11,27 @@ use native.Mathlib.Nat.{zero-add, not-suc-le-zero, le-of-suc-le-suc, eq-or-lt-of
 use native.Mathlib.Decide.{ℕ-discrete}
 use native.Mathlib.Omega.{arith}
 use lib.Dec.{eqb}
-use lib.ListN.{length, getD, length-map}
+use lib.ListN.{length, getD, length-map, length-append}
 use borrow.Author.Tests.{eq-eqb, ne-eqb}
-use Rattle.rules.specs.Basics.{given, anyOf, occurs}
+use Rattle.rules.specs.Basics.{given, upTo, anyOf, occurs}
 use Rattle.rules.specs.Edges.{Graph}
 use Rattle.rules.specs.Score.{pairCost}
-use Rattle.rules.specs.Search.{added, totalAfter, total, different, candidates, State, searchPlaces, searchFrom}
-use Rattle.rules.proofs.Lists.{any-snoc, in-upFrom}
-use Rattle.rules.proofs.Tests.{lt-or-ge}
-use Rattle.theory.proofs.Each.{Each, each-imp, each-snoc, each-run, getD-map}
+use Rattle.rules.specs.Peeling.{isFixed}
+use Rattle.rules.specs.Search.{added, totalAfter, total, firstMask, different, candidates, candidatesIn, State, searchPlaces, searchFrom}
+use Rattle.rules.proofs.Lists.{any-snoc, any-out, in-upFrom, in-upTo}
+use Rattle.rules.proofs.Tests.{by-test, lt-or-ge}
+use Rattle.theory.proofs.Each.{Each, each-imp, each-snoc, each-of, getD-map}
 use Rattle.rules.proofs.Sums.{sum-ext}
-use Rattle.theory.proofs.Search.{search-priced, search-length, search-each, Priced, Allowed, best, first-length, first-below}
+use Rattle.theory.proofs.Search.{search-passes, search-priced, search-length, Priced, Allowed, best, first-passes, first-length}
 use Rattle.theory.proofs.Budget.{start}
+use Rattle.theory.proofs.Fixed.{May, Fits, fits-none, fits-snoc, candidates-may, first-may, allowed-fixed, allowed-free}
 
 -- ---- The candidates
 
-module _ (K : ℕ) where
-  -- they are masks
-  pub candidates-below : 0 < K → (p : List ℕ) → Each (λ m. m < K) (candidates K p)
-  unfolding candidates
-  candidates-below h p = each-run 0 (suc (min (different p) (K - 1))) (λ m l. omega arith)
-
-  -- they are all masks up to the number of different ones in p
-  pub is-candidate : {m : ℕ} (p : List ℕ) → m ≤ different p → m < K → List·Memᴰ m (candidates K p)
-  unfolding candidates
-  is-candidate {m} p h l = in-upFrom 0 (suc (min (different p) (K - 1))) m zero-le (omega arith)
+-- they are all masks up to the number of different ones in p
+pub is-candidate : (K : ℕ) {m : ℕ} (p : List ℕ) → m ≤ different p → m < K → List·Memᴰ m (candidates K p)
+unfolding candidates
+is-candidate K {m} p h l = in-upFrom 0 (suc (min (different p) (K - 1))) m zero-le (omega arith)
 
 -- ---- Masks in use
 
@@ -174,30 +171,51 @@ module _ (K weight : ℕ) (g : Graph) where
 
 -- ---- The search of a component
 
--- what it holds, whatever the budget: k masks below K, and their cost
-pub record Feasible (K weight : ℕ) (g : Graph) (k : ℕ) (s : State) : Type 0 where
+-- what it holds, whatever the budget: for each of k places a mask that it may have, and their cost
+pub record Feasible (K weight : ℕ) (g : Graph) (fixed : ℕ → ℕ) (k : ℕ) (s : State) : Type 0 where
   pub size : length (s .incumbent) ≡ k
-  pub below : Each (λ m. m < K) (s .incumbent)
+  pub fits : Fits K fixed (s .incumbent)
   pub cost : Priced (added weight g) s
 
-module _ (K weight : ℕ) (g : Graph) (budget k steps : ℕ) (stopped : Bool) where
+module _ (K weight : ℕ) (g : Graph) (fixed : ℕ → ℕ) (budget k steps : ℕ) (stopped : Bool) where
   -- it starts so, from the first assignment, and stays so
-  pub from-feasible : 0 < K → Feasible K weight g k (searchFrom K weight budget g k steps stopped)
+  pub from-feasible : 0 < K → ((i : ℕ) → i < k → isFixed fixed i ≡ true → fixed i < K) → Feasible K weight g fixed k (searchFrom K weight budget g fixed k steps stopped)
   unfolding totalAfter
-  from-feasible h =
+  from-feasible h below =
       let add = added weight g in
-      let s = start K weight g k steps stopped in
+      let cands = candidatesIn K fixed k in
+      let pick = firstMask add K fixed in
+      let s = start K weight g fixed k steps stopped in
+      let first = first-passes pick (λ left p. (length p + left ≡ k) × Fits K fixed p)
+      (λ left p e. (omega (arith, length-append p (pick p ∷ [])), fits-snoc p (pick p) (e .1) (first-may K h fixed k below add p (omega arith))))
+      k [] (zero-add k, fits-none) in
       record {
-        size = search-length add (candidates K) budget k [] 0 s (zero-add k) (first-length add K k [] ∙ zero-add k);
-        below = search-each add (candidates K) budget (λ m. m < K) (candidates-below K h) k [] 0 s tt (first-below add K h k [] tt);
-        cost = search-priced add (candidates K) budget k [] 0 s refl refl;
+        size = search-length add cands budget k [] 0 s (zero-add k) (first-length pick k [] ∙ zero-add k);
+        fits = search-passes add cands budget (λ left p c. (length p + left ≡ k) × Fits K fixed p)
+            (λ left p c e. each-imp (λ m n. (omega (arith, length-append p (m ∷ [])), fits-snoc p m (e .1) n)) (cands p) (candidates-may K h fixed k below p (omega arith)))
+            k [] 0 s (zero-add k, fits-none) first .1;
+        cost = search-priced add cands budget k [] 0 s refl refl;
       }
 
-  -- if it was not stopped, no assignment to K masks costs less
-  pub from-cheapest : searchFrom K weight budget g k steps stopped .stopped ≡ false
-      → (q : List ℕ) → length q ≡ k → Each (λ m. m < K) q → searchFrom K weight budget g k steps stopped .cost ≤ total (added weight g) q
-  from-cheapest e q n below =
-      let s = start K weight g k steps stopped in
-      let r = renaming K weight g q below in
-      subst (λ (j : ℕ). searchPlaces (added weight g) (candidates K) budget j [] 0 s .stopped ≡ false → searchPlaces (added weight g) (candidates K) budget j [] 0 s .cost ≤ total (added weight g) q)
-      (r .size ∙ n) (λ e. rw (r .cost) at (best (added weight g) (candidates K) budget (r .masks) [] 0 s (r .allowed) e)) e
+  -- if it was not stopped, no masks that the places may have cost less
+  pub from-cheapest : searchFrom K weight budget g fixed k steps stopped .stopped ≡ false
+      → (q : List ℕ) → length q ≡ k → Fits K fixed q → searchFrom K weight budget g fixed k steps stopped .cost ≤ total (added weight g) q
+  from-cheapest e q n fits =
+      by-test (anyOf (isFixed fixed) (upTo k))
+      (λ some. reaches q n (allowed-fixed K fixed k some [] q (λ j l. subst (λ (i : ℕ). May K fixed i (getD q j 0)) (sym (zero-add j)) (fits j l))))
+      (λ none.
+      let free : (i : ℕ) → i < k → isFixed fixed i ≡ false = λ i l. any-out (isFixed fixed) (upTo k) none i (in-upTo k i .1 l) in
+      let r = renaming K weight g q (each-of (λ m. m < K) q (λ i l. fits i l .below)) in
+      rw (r .cost) at (reaches (r .masks) (r .size ∙ n) (allowed-free K fixed k free [] (r .masks) (omega (arith, r .size)) (r .allowed))))
+    where
+      cands : List ℕ → List ℕ
+      cands = candidatesIn K fixed k
+
+      s : State
+      s = start K weight g fixed k steps stopped
+
+      -- what the candidates allow costs no less
+      reaches : (q : List ℕ) → length q ≡ k → Allowed cands [] q → searchPlaces (added weight g) cands budget k [] 0 s .cost ≤ total (added weight g) q
+      reaches q n allowed =
+          subst (λ (j : ℕ). searchPlaces (added weight g) cands budget j [] 0 s .stopped ≡ false → searchPlaces (added weight g) cands budget j [] 0 s .cost ≤ total (added weight g) q)
+          n (best (added weight g) cands budget q [] 0 s allowed) e

@@ -35,8 +35,8 @@ run-bounds s ps valid =
     let conflicts = conflicts-small g masks (length ps) few (λ u v. given-le (conflictEdge s (pieceAt ps u) (pieceAt ps v)) (omega arith)) in
     let stitches = stitches-small g masks (length ps) few (λ u v. given-le (stitchEdge s (pieceAt ps u) (pieceAt ps v)) (omega arith)) in
     record {
-      count = omega (arith, one .whole .size);
-      masks = λ i h. omega (arith, one .whole .below i (omega (arith, one .whole .size)), facts .masks .high);
+      count = omega (arith, one .whole .assignment .size);
+      masks = λ i h. omega (arith, one .whole .assignment .below i (omega (arith, one .whole .assignment .size)), facts .masks .high);
       conflicts = conflicts;
       stitches = stitches;
       cost = cost-small (facts .weight .high) conflicts stitches;

@@ -1,13 +1,14 @@
 -- The search of n places looks at what masks add after fewer than n places alone. So two added costs that agree there give the same first assignment, the same
 -- total and the same search.
-use mathlib.Core.Bool.{Bool}
+use mathlib.Core.Bool.{Bool, cond}
 use mathlib.Core.List.{List, [], _∷_, _++_}
 use mathlib.Core.Logic.{⊎-elim}
 use mathlib.Core.Path.{_≡_, refl, sym, ap, _∙_}
 use Prim.Native.Nat.{ℕ, zero, suc, _+_, _≤_, _<_}
 use native.Mathlib.Omega.{arith}
 use lib.ListN.{length, length-append}
-use Rattle.rules.specs.Search.{cheapest, firstAfter, total, totalAfter, State, state, step, Next, tryMasks, searchPlaces}
+use Rattle.rules.specs.Search.{cheapest, firstAfter, firstMask, total, totalAfter, State, state, step, Next, tryMasks, searchPlaces}
+use Rattle.rules.specs.Peeling.{isFixed}
 use Rattle.rules.proofs.Tests.{lt-or-ge}
 use Rattle.theory.proofs.Search.{at-stop, at-enter, at-skip, first-length}
 
@@ -15,12 +16,13 @@ longer : (p : List ℕ) (m : ℕ) → length (p ++ (m ∷ [])) ≡ suc (length p
 longer p m = length-append p (m ∷ []) ∙ omega arith
 
 module _ (add add′ : List ℕ → ℕ → ℕ) (n : ℕ) (same : (p : List ℕ) (m : ℕ) → length p < n → add p m ≡ add′ p m) where
-  first-alike : (K left : ℕ) (p : List ℕ) → length p + left ≡ n → firstAfter add K left p ≡ firstAfter add′ K left p
-  unfolding firstAfter
-  first-alike K zero p e = refl
-  first-alike K (suc left) p e =
-      let here : cheapest (add p) K ≡ cheapest (add′ p) K = λ i. cheapest (λ m. same p m (omega arith) i) K in
-      ap (λ (m : ℕ). firstAfter add K left (p ++ (m ∷ []))) here ∙ first-alike K left (p ++ (cheapest (add′ p) K ∷ [])) (omega (arith, longer p (cheapest (add′ p) K)))
+  first-alike : (K : ℕ) (fixed : ℕ → ℕ) (left : ℕ) (p : List ℕ) → length p + left ≡ n → firstAfter (firstMask add K fixed) left p ≡ firstAfter (firstMask add′ K fixed) left p
+  unfolding firstAfter firstMask
+  first-alike K fixed zero p e = refl
+  first-alike K fixed (suc left) p e =
+      let pick = firstMask add′ K fixed p in
+      let here : firstMask add K fixed p ≡ pick = λ i. cond (isFixed fixed (length p)) (fixed (length p)) (cheapest (λ m. same p m (omega arith) i) K) in
+      ap (λ (m : ℕ). firstAfter (firstMask add K fixed) left (p ++ (m ∷ []))) here ∙ first-alike K fixed left (p ++ (pick ∷ [])) (omega (arith, longer p pick))
 
   total-alike : (p : List ℕ) (c : ℕ) (q : List ℕ) → length p + length q ≤ n → totalAfter add p c q ≡ totalAfter add′ p c q
   unfolding totalAfter
@@ -57,11 +59,13 @@ module _ (add add′ : List ℕ → ℕ → ℕ) (n : ℕ) (same : (p : List ℕ
         try-alike (searchPlaces add cands budget left) (searchPlaces add′ cands budget left) (cands p) p c s (omega arith) (λ q d t f. search-alike cands left q d t (omega arith))
 
     -- from the first assignment on
-    pub from-alike : (K : ℕ) (cands : List ℕ → List ℕ) (steps : ℕ) (stopped : Bool)
-        → searchPlaces add cands budget n [] 0 (state steps stopped (total add (firstAfter add K n [])) (firstAfter add K n []))
-        ≡ searchPlaces add′ cands budget n [] 0 (state steps stopped (total add′ (firstAfter add′ K n [])) (firstAfter add′ K n []))
-    from-alike K cands steps stopped =
+    pub from-alike : (K : ℕ) (fixed : ℕ → ℕ) (cands : List ℕ → List ℕ) (steps : ℕ) (stopped : Bool)
+        → let first = firstAfter (firstMask add K fixed) n [] in
+        let first′ = firstAfter (firstMask add′ K fixed) n [] in
+        searchPlaces add cands budget n [] 0 (state steps stopped (total add first) first) ≡ searchPlaces add′ cands budget n [] 0 (state steps stopped (total add′ first′) first′)
+    from-alike K fixed cands steps stopped =
         let none : length {A = ℕ} [] + n ≡ n = omega arith in
-        let first = first-alike K n [] none in
-        let cost : total add (firstAfter add′ K n []) ≡ total add′ (firstAfter add′ K n []) = total-alike [] 0 (firstAfter add′ K n []) (omega (arith, first-length add′ K n [])) in
+        let first = first-alike K fixed n [] none in
+        let first′ = firstAfter (firstMask add′ K fixed) n [] in
+        let cost : total add first′ ≡ total add′ first′ = total-alike [] 0 first′ (omega (arith, first-length (firstMask add′ K fixed) n [])) in
         search-alike cands n [] 0 _ none ∙ rw (first, cost)

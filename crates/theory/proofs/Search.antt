@@ -7,13 +7,13 @@ use mathlib.Core.Path.{_≡_, refl, sym, ap, _∙_}
 use mathlib.Core.List.{List, [], _∷_, _++_, append-nil, append-assoc, List·Memᴰ, List·Memᴰ·head, List·Memᴰ·tail}
 use mathlib.Core.Logic.{⊎-elim}
 use Prim.Native.Nat.{ℕ, zero, suc, _+_, _≤_, _<_}
-use native.Mathlib.Nat.{le-refl, le-trans, le-of-lt, le-of-suc-le-suc, not-suc-le-zero, eq-or-lt-of-le, add-zero}
+use native.Mathlib.Nat.{le-refl, le-trans, le-of-lt, le-of-suc-le-suc, not-suc-le-zero, eq-or-lt-of-le}
 use native.Mathlib.Omega.{arith}
 use lib.ListN.{length, length-append}
 use borrow.Author.Tests.{lt-ltb, le-ltb}
 use Rattle.rules.specs.Search.{totalAfter, total, cheapest, firstAfter, State, state, stop, step, Next, tryMasks, searchPlaces}
 use Rattle.rules.proofs.Tests.{clash, not-before, lt-or-ge}
-use Rattle.theory.proofs.Each.{Each, each-imp, each-all, each-snoc}
+use Rattle.theory.proofs.Each.{Each, each-imp, each-all}
 
 -- ---- One mask
 
@@ -108,11 +108,6 @@ module _ (add : List ℕ → ℕ → ℕ) (cands : List ℕ → List ℕ) (budge
   search-length {n} k p c s e i =
       let r = search-passes add cands budget (λ left p c. length p + left ≡ n) (λ left p c e. each-all (λ m. omega (arith, length-append p (m ∷ []))) (cands p)) k p c s e (omega arith) in
       omega arith
-
-  -- what every candidate has, every mask of the incumbent has
-  pub search-each : (P : ℕ → Type 0) → ((p : List ℕ) → Each P (cands p))
-      → (k : ℕ) (p : List ℕ) (c : ℕ) (s : State) → Each P p → Each P (s .incumbent) → Each P (searchPlaces add cands budget k p c s .incumbent)
-  search-each P all = search-passes add cands budget (λ left p c. Each P p) (λ left p c e. each-imp (λ m h. each-snoc P p m e h) (cands p) (all p))
 
   -- a search that was stopped stays so
   pub search-sticks : (k : ℕ) (p : List ℕ) (c : ℕ) (s : State) → s .stopped ≡ true → searchPlaces add cands budget k p c s .stopped ≡ true
@@ -233,15 +228,16 @@ module _ (f : ℕ → ℕ) where
   cheapest-lowest zero j h = absurd (not-suc-le-zero h)
   cheapest-lowest (suc k) j h = cheapest-cases (λ b. j < b → f b < f j) k (λ l g. omega (arith, cheapest-least k j g)) (λ l. cheapest-lowest k j) h
 
-module _ (add : List ℕ → ℕ → ℕ) (K : ℕ) where
-  -- the first assignment has a mask for each place
-  pub first-length : (k : ℕ) (p : List ℕ) → length (firstAfter add K k p) ≡ length p + k
+module _ (pick : List ℕ → ℕ) where
+  -- What each place hands on with the mask picked for it, the first assignment has: `Here left p` is known where the masks so far are p, with left places to come.
+  pub first-passes : (Here : ℕ → List ℕ → Type 0) → ((left : ℕ) (p : List ℕ) → Here (suc left) p → Here left (p ++ (pick p ∷ [])))
+      → (k : ℕ) (p : List ℕ) → Here k p → Here 0 (firstAfter pick k p)
   unfolding firstAfter
-  first-length zero p = sym (add-zero (length p))
-  first-length (suc k) p = first-length k (p ++ (cheapest (add p) K ∷ [])) ∙ omega (arith, length-append p (cheapest (add p) K ∷ []))
+  first-passes Here hands zero p h = h
+  first-passes Here hands (suc k) p h = first-passes Here hands k (p ++ (pick p ∷ [])) (hands k p h)
 
-  -- each of them below K
-  pub first-below : 0 < K → (k : ℕ) (p : List ℕ) → Each (λ m. m < K) p → Each (λ m. m < K) (firstAfter add K k p)
-  unfolding firstAfter
-  first-below h zero p e = e
-  first-below h (suc k) p e = first-below h k (p ++ (cheapest (add p) K ∷ [])) (each-snoc (λ m. m < K) p (cheapest (add p) K) e (cheapest-below (add p) K h))
+  -- it has a mask for each place
+  pub first-length : (k : ℕ) (p : List ℕ) → length (firstAfter pick k p) ≡ length p + k
+  first-length k p =
+      let r = first-passes (λ left q. length q + left ≡ length p + k) (λ left q e. omega (arith, length-append q (pick q ∷ []))) k p refl in
+      omega arith

@@ -15,11 +15,11 @@ use borrow.Author.Tests.{not-true}
 use Rattle.rules.specs.Basics.{occurs}
 use Rattle.rules.specs.Edges.{Graph}
 use Rattle.rules.specs.Score.{maskOf}
-use Rattle.rules.specs.Search.{State, localGraph, searchFrom, completeFrom}
+use Rattle.rules.specs.Search.{State, localGraph, localFixed, searchFrom, completeFrom}
 use Rattle.rules.specs.Decomposition.{Reached, Completed, putMasks, searchAll, completeAll}
 use Rattle.rules.proofs.Edges.{Undirected}
 use Rattle.rules.proofs.Tests.{not-before}
-use Rattle.theory.proofs.Each.{each-image, image-each}
+use Rattle.theory.proofs.Each.{each-of}
 use Rattle.rules.proofs.Lists.{_∈_, none-in, occurs-in, occurs-out, in-or-out, in-keep, keep-in, Distinct, distinct-keep}
 use Rattle.rules.proofs.Tests.{clash}
 use Rattle.theory.proofs.Cost.{costIn, cost-same}
@@ -28,15 +28,16 @@ use Rattle.theory.proofs.Components.{component-in, component-distinct, 
 use Rattle.theory.proofs.Search.{search-sticks}
 use Rattle.theory.proofs.Budget.{Abreast, from-larger, search-within, search-spent}
 use Rattle.theory.proofs.Complete.{Short, from-follows}
+use Rattle.theory.proofs.Fixed.{May, FixedBelow, image-fits, fits-image, local-below}
 use Rattle.theory.proofs.Renaming.{from-feasible, from-cheapest}
 
 reached-path : {x y : Reached} → x .steps ≡ y .steps → x .stopped ≡ y .stopped → x .masks ≡ y .masks → x ≡ y
 reached-path p q r = λ i. record { steps = p i; stopped = q i; masks = r i }
 
-module _ (K W : ℕ) (g : Graph) (budget : ℕ) where
+module _ (K W : ℕ) (g : Graph) (fixed : ℕ → ℕ) (budget : ℕ) where
   -- what the search of one component finds, and what is reached with it
   abbrev pub found : List ℕ → Reached → State
-  found order w = searchFrom K W budget (localGraph g order) (length order) (w .steps) (w .stopped)
+  found order w = searchFrom K W budget (localGraph g order) (localFixed fixed order) (length order) (w .steps) (w .stopped)
 
   abbrev pub after : List ℕ → Reached → Reached
   after order w = record { steps = found order w .steps; stopped = found order w .stopped; masks = putMasks order (found order w .incumbent) (w .masks) }
@@ -47,65 +48,68 @@ module _ (K W : ℕ) (g : Graph) (budget : ℕ) where
   costsOf (order ∷ orders) w = found order w .cost + costsOf orders (after order w)
 
   -- what was stopped stays so
-  pub all-sticks : (orders : List (List ℕ)) (w : Reached) → w .stopped ≡ true → searchAll K W budget g orders w .stopped ≡ true
+  pub all-sticks : (orders : List (List ℕ)) (w : Reached) → w .stopped ≡ true → searchAll K W budget g fixed orders w .stopped ≡ true
   unfolding searchAll
   all-sticks [] w e = e
   all-sticks (order ∷ orders) w e = all-sticks orders (after order w) (search-sticks _ _ budget (length order) [] 0 _ e)
 
   -- steps stay within the budget, and are the budget when stopped
-  pub all-within : (orders : List (List ℕ)) (w : Reached) → w .steps ≤ budget → searchAll K W budget g orders w .steps ≤ budget
+  pub all-within : (orders : List (List ℕ)) (w : Reached) → w .steps ≤ budget → searchAll K W budget g fixed orders w .steps ≤ budget
   unfolding searchAll
   all-within [] w h = h
   all-within (order ∷ orders) w h = all-within orders (after order w) (search-within _ _ budget (length order) [] 0 _ h)
 
   pub all-spent : (orders : List (List ℕ)) (w : Reached) → w .steps ≤ budget → (w .stopped ≡ true → w .steps ≡ budget)
-      → searchAll K W budget g orders w .stopped ≡ true → searchAll K W budget g orders w .steps ≡ budget
+      → searchAll K W budget g fixed orders w .stopped ≡ true → searchAll K W budget g fixed orders w .steps ≡ budget
   unfolding searchAll
   all-spent [] w h s = s
   all-spent (order ∷ orders) w h s =
       all-spent orders (after order w) (search-within _ _ budget (length order) [] 0 _ h) (search-spent _ _ budget (length order) [] 0 _ h s)
 
   -- there stay as many masks
-  pub all-length : (orders : List (List ℕ)) (w : Reached) → length (searchAll K W budget g orders w .masks) ≡ length (w .masks)
+  pub all-length : (orders : List (List ℕ)) (w : Reached) → length (searchAll K W budget g fixed orders w .masks) ≡ length (w .masks)
   unfolding searchAll
   all-length [] w = refl
   all-length (order ∷ orders) w = all-length orders (after order w) ∙ put-length order (found order w .incumbent) (w .masks)
 
   -- masks stay below K
-  pub all-below : 0 < K → (orders : List (List ℕ)) (w : Reached) → ((i : ℕ) → maskOf (w .masks) i < K) → (i : ℕ) → maskOf (searchAll K W budget g orders w .masks) i < K
+  pub all-below : 0 < K → (orders : List (List ℕ)) → ((c : List ℕ) → List·Memᴰ c orders → FixedBelow K fixed c)
+      → (w : Reached) → ((i : ℕ) → maskOf (w .masks) i < K) → (i : ℕ) → maskOf (searchAll K W budget g fixed orders w .masks) i < K
   unfolding searchAll
-  all-below pos [] w h = h
-  all-below pos (order ∷ orders) w h =
-      all-below pos orders (after order w)
-      (put-below order (found order w .incumbent) (w .masks) (from-feasible K W (localGraph g order) budget (length order) (w .steps) (w .stopped) pos .below) h)
+  all-below pos [] low w h = h
+  all-below pos (order ∷ orders) low w h =
+      let s = found order w in
+      let feasible = from-feasible K W (localGraph g order) (localFixed fixed order) budget (length order) (w .steps) (w .stopped) pos (local-below order (low order (here refl))) in
+      all-below pos orders (λ c m. low c (later m)) (after order w)
+      (put-below order (s .incumbent) (w .masks) (each-of (λ m. m < K) (s .incumbent) (λ i l. feasible .fits i l .below)) h)
 
 -- What is reached on the vertices xs with the components cs.
-pub record Settled (K W : ℕ) (g : Graph) (budget : ℕ) (xs : List ℕ) (cs : List (List ℕ)) (w r : Reached) : Type 0 where
+pub record Settled (K W : ℕ) (g : Graph) (fixed : ℕ → ℕ) (budget : ℕ) (xs : List ℕ) (cs : List (List ℕ)) (w r : Reached) : Type 0 where
   pub size : length (r .masks) ≡ length (w .masks)
   pub outside : (u : ℕ) → (u ∈ xs → ⊥) → maskOf (r .masks) u ≡ maskOf (w .masks) u
-  pub below : (u : ℕ) → u ∈ xs → maskOf (r .masks) u < K
-  pub cost : sumParts (costIn W g (maskOf (r .masks))) cs ≡ costsOf K W g budget cs w
+  pub fits : (u : ℕ) → u ∈ xs → May K fixed u (maskOf (r .masks) u)
+  pub cost : sumParts (costIn W g (maskOf (r .masks))) cs ≡ costsOf K W g fixed budget cs w
 
-module _ (K W : ℕ) (pos : 0 < K) {g : Graph} (undirected : Undirected g) (budget : ℕ) where
-  pub settled : {xs : List ℕ} {cs : List (List ℕ)} → Partition g xs cs → Distinct xs → (w : Reached) → ((u : ℕ) → u ∈ xs → u < length (w .masks))
-      → Settled K W g budget xs cs w (searchAll K W budget g cs w)
+module _ (K W : ℕ) (pos : 0 < K) {g : Graph} (undirected : Undirected g) (fixed : ℕ → ℕ) (budget : ℕ) where
+  pub settled : {xs : List ℕ} {cs : List (List ℕ)} → Partition g xs cs → Distinct xs → FixedBelow K fixed xs → (w : Reached) → ((u : ℕ) → u ∈ xs → u < length (w .masks))
+      → Settled K W g fixed budget xs cs w (searchAll K W budget g fixed cs w)
   unfolding searchAll sumParts costsOf
-  settled end d w h = record { size = refl; outside = λ u n. refl; below = λ u m. none-in m; cost = refl }
-  settled (part {v} {after = vs} {c} {cs} comp i partition) d w h =
-      let s = found K W g budget c w in
+  settled end d low w h = record { size = refl; outside = λ u n. refl; fits = λ u m. none-in m; cost = refl }
+  settled (part {v} {after = vs} {c} {cs} comp i partition) d low w h =
+      let s = found K W g fixed budget c w in
       let p = s .incumbent in
-      let feasible = from-feasible K W (localGraph g c) budget (length c) (w .steps) (w .stopped) pos in
+      let feasible = from-feasible K W (localGraph g c) (localFixed fixed c) budget (length c) (w .steps) (w .stopped) pos (local-below c (λ u m. low u (component-in comp m))) in
       let own = put-own c p (w .masks) (component-distinct comp d) (λ u m. h u (component-in comp m)) (feasible .size) in
-      let ih = settled partition (distinct-keep _ (v ∷ vs) d) (after K W g budget c w)
+      let ih = settled partition (distinct-keep _ (v ∷ vs) d) (λ u m. low u (keep-in _ (v ∷ vs) m .0)) (after K W g fixed budget c w)
       (λ u m. rw (put-length c p (w .masks)) (h u (keep-in _ (v ∷ vs) m .0))) in
-      let kept : (u : ℕ) → u ∈ c → maskOf (searchAll K W budget g cs (after K W g budget c w) .masks) u ≡ maskOf (putMasks c p (w .masks)) u
+      let kept : (u : ℕ) → u ∈ c → maskOf (searchAll K W budget g fixed cs (after K W g fixed budget c w) .masks) u ≡ maskOf (putMasks c p (w .masks)) u
       = λ u m. ih .outside u (λ n. clash (occurs-in u c .1 m) (not-true (occurs u c) (keep-in _ (v ∷ vs) n .1))) in
       record {
         size = ih .size ∙ put-length c p (w .masks);
         outside = λ u n. ih .outside u (λ m. n (keep-in _ (v ∷ vs) m .0)) ∙ put-other c p (w .masks) u (λ m. n (component-in comp m));
-        below = λ u m. ⊎-elim
-            (λ k. rw (kept u k) (each-image (λ x. x < K) (maskOf (putMasks c p (w .masks))) c (rw own (feasible .below)) u k))
-            (λ n. ih .below u (in-keep _ m (ap not (occurs-out u c .1 n))))
+        fits = λ u m. ⊎-elim
+            (λ k. rw (kept u k) (fits-image c (maskOf (putMasks c p (w .masks))) (rw own (feasible .fits)) u k))
+            (λ n. ih .fits u (in-keep _ m (ap not (occurs-out u c .1 n))))
             (in-or-out u c);
         cost = ap₂ _+_
             (cost-same W g _ _ c kept ∙ put-cost W undirected c p (w .masks) (component-distinct comp d) (λ u m. h u (component-in comp m)) (feasible .size) ∙ sym (feasible .cost))
@@ -113,27 +117,27 @@ module _ (K W : ℕ) (pos : 0 < K) {g : Graph} (undirected : Undirected g) (budg
       }
 
   -- searches that were not stopped leave no cheaper masks
-  pub all-cheapest : (cs : List (List ℕ)) (w : Reached) → searchAll K W budget g cs w .stopped ≡ false
-      → (a : ℕ → ℕ) → ((c : List ℕ) → List·Memᴰ c cs → (u : ℕ) → u ∈ c → a u < K) → costsOf K W g budget cs w ≤ sumParts (costIn W g a) cs
+  pub all-cheapest : (cs : List (List ℕ)) (w : Reached) → searchAll K W budget g fixed cs w .stopped ≡ false
+      → (a : ℕ → ℕ) → ((c : List ℕ) → List·Memᴰ c cs → (u : ℕ) → u ∈ c → May K fixed u (a u)) → costsOf K W g fixed budget cs w ≤ sumParts (costIn W g a) cs
   unfolding searchAll sumParts costsOf
   all-cheapest [] w e a l = le-refl 0
   all-cheapest (c ∷ cs) w e a l =
-      let s = found K W g budget c w in
-      let ran : s .stopped ≡ false = not-before (all-sticks K W g budget cs (after K W g budget c w)) e in
+      let s = found K W g fixed budget c w in
+      let ran : s .stopped ≡ false = not-before (all-sticks K W g fixed budget cs (after K W g fixed budget c w)) e in
       add-le-add
       (rw (← total-cost W undirected a c)
-      (from-cheapest K W (localGraph g c) budget (length c) (w .steps) (w .stopped) ran (map a c) (length-map c a) (image-each (λ x. x < K) a c (l c (here refl)))))
-      (all-cheapest cs (after K W g budget c w) e a (λ d m. l d (later m)))
+      (from-cheapest K W (localGraph g c) (localFixed fixed c) budget (length c) (w .steps) (w .stopped) ran (map a c) (length-map c a) (image-fits c a (l c (here refl)))))
+      (all-cheapest cs (after K W g fixed budget c w) e a (λ d m. l d (later m)))
 
 -- What a larger budget does against a smaller one, from what both have reached.
-pub record Compared (K W : ℕ) (g : Graph) (b₁ b₂ : ℕ) (cs : List (List ℕ)) (w₁ w₂ r₁ r₂ : Reached) : Type 0 where
+pub record Compared (K W : ℕ) (g : Graph) (fixed : ℕ → ℕ) (b₁ b₂ : ℕ) (cs : List (List ℕ)) (w₁ w₂ r₁ r₂ : Reached) : Type 0 where
   pub meters : Abreast b₁ (r₁ .steps) (r₁ .stopped) (r₂ .steps) (r₂ .stopped)
-  pub noDearer : costsOf K W g b₂ cs w₂ ≤ costsOf K W g b₁ cs w₁
+  pub noDearer : costsOf K W g fixed b₂ cs w₂ ≤ costsOf K W g fixed b₁ cs w₁
   pub same : r₁ .stopped ≡ false → w₂ .masks ≡ w₁ .masks → r₂ ≡ r₁
 
-module _ (K W : ℕ) (g : Graph) {b₁ b₂ : ℕ} (le : b₁ ≤ b₂) where
+module _ (K W : ℕ) (g : Graph) (fixed : ℕ → ℕ) {b₁ b₂ : ℕ} (le : b₁ ≤ b₂) where
   pub all-larger : (cs : List (List ℕ)) (w₁ w₂ : Reached) → Abreast b₁ (w₁ .steps) (w₁ .stopped) (w₂ .steps) (w₂ .stopped)
-      → Compared K W g b₁ b₂ cs w₁ w₂ (searchAll K W b₁ g cs w₁) (searchAll K W b₂ g cs w₂)
+      → Compared K W g fixed b₁ b₂ cs w₁ w₂ (searchAll K W b₁ g fixed cs w₁) (searchAll K W b₂ g fixed cs w₂)
   unfolding searchAll costsOf
   all-larger [] w₁ w₂ m = record {
     meters = m;
@@ -141,15 +145,15 @@ module _ (K W : ℕ) (g : Graph) {b₁ b₂ : ℕ} (le : b₁ ≤ b₂) where
     same = λ e q. ⊎-elim (λ p. reached-path (sym (p .0)) (sym (p .1)) q) (λ h. clash (h .over) e) m;
   }
   all-larger (c ∷ cs) w₁ w₂ m =
-      let s₁ = found K W g b₁ c w₁ in
-      let s₂ = found K W g b₂ c w₂ in
-      let one = from-larger K W (localGraph g c) le (length c) m in
-      let ih = all-larger cs (after K W g b₁ c w₁) (after K W g b₂ c w₂) (one .meters) in
+      let s₁ = found K W g fixed b₁ c w₁ in
+      let s₂ = found K W g fixed b₂ c w₂ in
+      let one = from-larger K W (localGraph g c) (localFixed fixed c) le (length c) m in
+      let ih = all-larger cs (after K W g fixed b₁ c w₁) (after K W g fixed b₂ c w₂) (one .meters) in
       record {
         meters = ih .meters;
         noDearer = add-le-add (one .noDearer) (ih .noDearer);
         same = λ e q.
-            let ran : s₁ .stopped ≡ false = not-before (all-sticks K W g b₁ cs (after K W g b₁ c w₁)) e in
+            let ran : s₁ .stopped ≡ false = not-before (all-sticks K W g fixed b₁ cs (after K W g fixed b₁ c w₁)) e in
             ih .same e (ap₂ (λ (s : State) (masks : List ℕ). putMasks c (s .incumbent) masks) (one .same ran) q);
       }
 
@@ -183,25 +187,25 @@ module _ {b : ℕ} {w : Reached} {v : Completed} where
   follows-same (inl e) l = e .1
   follows-same (inr s) l = absurd (omega arith)
 
-module _ (K W : ℕ) (g : Graph) (b : ℕ) where
+module _ (K W : ℕ) (g : Graph) (fixed : ℕ → ℕ) (b : ℕ) where
   -- the complete search of one component more
   abbrev completeNext : List ℕ → Completed → Completed
   completeNext c v =
-      let s = completeFrom K W (localGraph g c) (length c) in
+      let s = completeFrom K W (localGraph g c) (localFixed fixed c) (length c) in
       record { steps = v .steps + s .steps; masks = putMasks c (s .incumbent) (v .masks) }
 
-  one-follows : (c : List ℕ) (w : Reached) (v : Completed) → FollowsAll b w v → FollowsAll b (after K W g b c w) (completeNext c v)
+  one-follows : (c : List ℕ) (w : Reached) (v : Completed) → FollowsAll b w v → FollowsAll b (after K W g fixed b c w) (completeNext c v)
   one-follows c w v (inl e) =
       rw (e .1)
       (⊎-elim
       (λ f. inl (f .0, ap (λ (s : State). record { steps = s .steps; stopped = s .stopped; masks = putMasks c (s .incumbent) (v .masks) }) (f .1)))
       (λ s. inr s)
-      (from-follows K W (localGraph g c) (length c) (inl (e .0, refl, refl))))
+      (from-follows K W (localGraph g c) (localFixed fixed c) (length c) (inl (e .0, refl, refl))))
   one-follows c w v (inr s) =
-      ⊎-elim (λ f. absurd (omega arith)) (λ t. inr t) (from-follows K W (localGraph g c) (length c) (inr s))
+      ⊎-elim (λ f. absurd (omega arith)) (λ t. inr t) (from-follows K W (localGraph g c) (localFixed fixed c) (length c) (inr s))
 
   -- the searches at a budget follow the complete ones
-  pub all-follows : (cs : List (List ℕ)) (w : Reached) (v : Completed) → FollowsAll b w v → FollowsAll b (searchAll K W b g cs w) (completeAll K W g cs v)
+  pub all-follows : (cs : List (List ℕ)) (w : Reached) (v : Completed) → FollowsAll b w v → FollowsAll b (searchAll K W b g fixed cs w) (completeAll K W g fixed cs v)
   unfolding searchAll completeAll
   all-follows [] w v f = f
-  all-follows (c ∷ cs) w v f = all-follows cs (after K W g b c w) (completeNext c v) (one-follows c w v f)
+  all-follows (c ∷ cs) w v f = all-follows cs (after K W g fixed b c w) (completeNext c v) (one-follows c w v f)

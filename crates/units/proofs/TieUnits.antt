@@ -38,7 +38,7 @@ module _ (s : Settings) (ps : List Piece) (n : ℕ) {ties : List ℕ} (holds : T
     units-same : components (wordGraph ties ties) (upTo n) ≡ unitsOf s ps
     units-same = rw size (components-same (upTo n) ties-joined)
 
-    layer-numbered : {before units numbers : List ℕ} → Numbered ties n before units numbers → UnitsOf s ps before units numbers
+    pub layer-numbered : {before units numbers : List ℕ} → Numbered ties n before units numbers → UnitsOf s ps before units numbers
     layer-numbered {units} numbered =
         let unit : (i : ℕ) → i < n → unitAt units i ≡ unitOf s ps i = λ i h. numbered .unit i h ∙ ap (λ (cs : List (List ℕ)). partOf cs i) units-same in
         record {

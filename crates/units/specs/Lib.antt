@@ -1,3 +1,4 @@
 pub mod Numbered
 pub mod Merged
 pub mod Steps
+pub mod Noted

@@ -15,12 +15,12 @@ use Rattle.rules.specs.Lines.{ascii, line, numberLines}
 use Rattle.rules.specs.LayerText.{pieceNumbers, pieceLine, pieceLines, layerText}
 use Rattle.rules.specs.Questions.{done, refused, judgeLayer, Valid, pieceFrom}
 use Rattle.rules.specs.ResultText.{verdictLine, resultKeys, resultNumbers, maskLine, maskLines, resultText}
-use Rattle.rules.specs.Settings.{noPiece}
+use Rattle.rules.specs.Settings.{noPiece, unset}
 use Rattle.layout.specs.Flat.{pieceOf, piecesOf}
 use Rattle.layout.proofs.PieceLaws.{pieces-length, pieces-first, piece-of}
 use Rattle.lines.specs.Writing.{laid}
 use Rattle.lines.proofs.NumberLines.{laid-next, laid-room}
-use Rattle.text.proofs.WrittenLayers.{five}
+use Rattle.text_theory.proofs.WrittenPieces.{five}
 
 -- ---- Masks
 
@@ -46,7 +46,7 @@ piece-laid (p ∷ ps) = ap (λ (l : List ℕ). pieceLine p ++ l) (piece-laid ps)
 -- a piece is stated by five numbers in a row
 stated : (flat : List ℕ) (k : ℕ) → pieceOf flat k ≡ pieceFrom (take 5 (drop (5 * k) flat))
 unfolding pieceOf
-stated flat k = λ i. record { shape = first i; x1 = at 1 (omega arith) i; y1 = at 2 (omega arith) i; x2 = at 3 (omega arith) i; y2 = at 4 (omega arith) i }
+stated flat k = λ i. record { shape = first i; x1 = at 1 (omega arith) i; y1 = at 2 (omega arith) i; x2 = at 3 (omega arith) i; y2 = at 4 (omega arith) i; fixed = unset }
   where
     at : (j : ℕ) → j < 5 → getD flat (5 * k + j) 0 ≡ getD (take 5 (drop (5 * k) flat)) j 0
     at j l = sym (getD-take 5 (drop (5 * k) flat) j 0 l ∙ getD-drop (5 * k) flat j 0)

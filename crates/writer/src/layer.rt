@@ -1,4 +1,4 @@
-// The layer text of pieces given as numbers, five to a piece.
+// The layer text of pieces given as numbers, five to a piece, with their fixed masks beside them.
 ghost use mathlib.Core.Path.{_≡_};
 ghost use mathlib.Core.List.{[], _∷_};
 ghost use Prim.Native.Nat.{_+_, _*_, _<_, _≤_};
@@ -6,13 +6,15 @@ ghost use lib.ListN.{length, getD};
 ghost use Rattle.rules.specs.Calls.{writeLayer, bufferAfter};
 ghost use Rattle.rules.specs.Answers.{lengthOf, writeAnswer};
 ghost use Rattle.rules.specs.Lines.{line, numberLines};
-ghost use Rattle.rules.specs.LayerText.{headerKeys, pieceLines, layerText};
-ghost use Rattle.rules.specs.Questions.{Valid};
-ghost use Rattle.layout.specs.Flat.{piecesOf};
+ghost use Rattle.rules.specs.LayerText.{headerKeys, pieceLines, fixedLine, fixedLines, layerText};
+ghost use Rattle.rules.specs.Questions.{Valid, withFixed};
+ghost use Rattle.rules.specs.Settings.{noPiece};
+ghost use Rattle.layout.specs.Flat.{piecesOf, recordsOf};
 ghost use Rattle.lines.specs.Writing.{Put};
 use layout::Judgement;
 use lines::write_line;
 use lines::write_number_line;
+use rules::Piece;
 use rules::Place;
 use rules::Refusal;
 use rules::Settings;
@@ -64,10 +66,42 @@ fn write_pieces(buffer: &mut [u8], at: usize, flat: &[u32], n: usize) -> usize
     end
 }
 
+// The line that fixes the mask of piece i, where it has a fixed one. The line does not depend on the rest of the piece.
+fn write_fixed_line(buffer: &mut [u8], at: usize, i: u32, mask: u8) -> usize
+    requires { ⌜ at + length (fixedLine i (withFixed mask noPiece)) ≤ length (now buffer) ⌝ }
+    ensures { λ r. ⌜ Put (now (buffer .entry)) at (fixedLine i (withFixed mask noPiece)) r (now (buffer .exit)) ⌝ }
+{
+    if mask == Piece::UNSET {
+        return at;
+    }
+    let numbers = [i, mask as u32];
+    write_line(buffer, at, b"fixed=", &numbers)
+}
+
+// These lines for the first n pieces, in rising order.
+fn write_fixed(buffer: &mut [u8], at: usize, fixed: &[u8], n: usize) -> usize
+    requires { ⌜ (n ≤ 512) × (n ≤ length (now fixed)) × (at + length (fixedLines 0 (recordsOf [] (now fixed) n)) ≤ length (now buffer)) ⌝ }
+    ensures { λ r. ⌜ Put (now (buffer .entry)) at (fixedLines 0 (recordsOf [] (now (fixed .entry)) n)) r (now (buffer .exit)) ⌝ }
+{
+    let mut end = at;
+    let mut piece = 0;
+    while piece < n {
+        end = write_fixed_line(buffer, end, piece as u32, fixed[piece]);
+        piece += 1;
+    }
+    end
+}
+
 // Writes the text of a valid layer at the front of a buffer that has room for it, and answers its length.
-fn write_layer_text(buffer: &mut [u8], settings: Settings, flat: &[u32; 2560], n: usize) -> usize
-    requires { ⌜ (32_768 ≤ length (now buffer)) × Valid settings (piecesOf (now flat) n) ⌝ }
-    ensures { λ r. ⌜ Put (now (buffer .entry)) 0 (layerText settings (piecesOf (now (flat .entry)) n)) r (now (buffer .exit)) ⌝ }
+fn write_layer_text(
+    buffer: &mut [u8],
+    settings: Settings,
+    flat: &[u32; 2560],
+    fixed: &[u8; 512],
+    n: usize,
+) -> usize
+    requires { ⌜ (32_768 ≤ length (now buffer)) × Valid settings (recordsOf (now flat) (now fixed) n) ⌝ }
+    ensures { λ r. ⌜ Put (now (buffer .entry)) 0 (layerText settings (recordsOf (now (flat .entry)) (now (fixed .entry)) n)) r (now (buffer .exit)) ⌝ }
 {
     let header = [
         settings.masks,
@@ -78,25 +112,27 @@ fn write_layer_text(buffer: &mut [u8], settings: Settings, flat: &[u32; 2560], n
         n as u32,
     ];
     let end = write_header(buffer, &header);
-    write_pieces(buffer, end, flat, n)
+    let next = write_pieces(buffer, end, flat, n);
+    write_fixed(buffer, next, fixed, n)
 }
 
-// Writes the text of any layer, or gives the first of the refusals 1 and 4 to 6 and leaves the buffer as it was.
+// Writes the text of any layer, or gives the first of the refusals 1, 4 to 6, 13 and 14 and leaves the buffer as it was.
 pub fn write_layer(
     settings: Settings,
     flat: &[u32; 2560],
+    fixed: &[u8; 512],
     n: usize,
     buffer: &mut [u8],
 ) -> WriteAnswer
-    ensures answer { λ r. ⌜ writeAnswer r ≡ lengthOf (writeLayer settings (piecesOf (now (flat .entry)) n) (now (buffer .entry))) ⌝ }
-    ensures written { λ r. ⌜ now (buffer .exit) ≡ bufferAfter (writeLayer settings (piecesOf (now (flat .entry)) n) (now (buffer .entry))) (now (buffer .entry)) ⌝ }
+    ensures answer { λ r. ⌜ writeAnswer r ≡ lengthOf (writeLayer settings (recordsOf (now (flat .entry)) (now (fixed .entry)) n) (now (buffer .entry))) ⌝ }
+    ensures written { λ r. ⌜ now (buffer .exit) ≡ bufferAfter (writeLayer settings (recordsOf (now (flat .entry)) (now (fixed .entry)) n) (now (buffer .entry))) (now (buffer .entry)) ⌝ }
 {
     if buffer.len() < 32_768 {
         return WriteAnswer::Refused(Refusal::Buffer, Place::Nothing);
     }
-    let judged = layout::judge(settings, flat, n);
+    let judged = fixed_masks::judge(settings, flat, fixed, n);
     if let Judgement::Refused(refusal, place) = judged {
         return WriteAnswer::Refused(refusal, place);
     }
-    WriteAnswer::Written(write_layer_text(buffer, settings, flat, n))
+    WriteAnswer::Written(write_layer_text(buffer, settings, flat, fixed, n))
 }

@@ -46,7 +46,7 @@ impl Checker {
         Ok(())
     }
 
-    /// Counts what ties do in input that was not refused.
+    /// Counts what ties and fixed masks do in input that was not refused.
     fn decomposed(&mut self, input: &Input<Vec<u8>>) {
         let layer = input.as_bytes().layer();
         self.tally

@@ -16,6 +16,8 @@ pub struct Piece {
     pub y1: u64,
     pub x2: u64,
     pub y2: u64,
+    /// The mask that the designer set, if one is.
+    pub fixed: Option<u64>,
 }
 
 impl Piece {
@@ -27,6 +29,7 @@ impl Piece {
             y1: 0,
             x2: 1,
             y2: 1,
+            fixed: None,
         }
     }
 }
@@ -58,6 +61,11 @@ impl Layer {
         );
         for p in &self.pieces {
             text += &format!("piece={},{},{},{},{}\n", p.shape, p.x1, p.y1, p.x2, p.y2);
+        }
+        for (number, piece) in self.pieces.iter().enumerate() {
+            if let Some(mask) = piece.fixed {
+                text += &format!("fixed={number},{mask}\n");
+            }
         }
         text.into_bytes()
     }

@@ -2,8 +2,8 @@
 
 use crate::check::{Checker, Finding};
 use crate::generate::{
-    any_layer, any_size, at_limits, damaged, damaged_stream, large_enough, lively, made,
-    streams_at_limits, whole_stream,
+    any_layer, any_size, at_limits, damaged, damaged_stream, fix, fixed_at_limits, fixed_runs,
+    free_layer, large_enough, lively, made, streams_at_limits, whole_stream,
 };
 use crate::input::Input;
 use crate::layer::Layer;
@@ -22,7 +22,7 @@ const GREATEST_BUDGET: u64 = 200_000;
 
 /// What comes before all rounds: the ends of every range.
 pub fn limits(checker: &mut Checker) -> Result<(), Finding> {
-    for text in at_limits() {
+    for text in [at_limits(), fixed_at_limits(), fixed_runs()].concat() {
         checker.input(Family::Limits, Input::Layer(text), 4096)?;
     }
     Ok(())
@@ -98,14 +98,17 @@ fn larger(
 /// A stream of a layer of any kind.
 fn stream(checker: &mut Checker, random: &mut Random) -> Result<(), Finding> {
     let count = random.of_any_size(512) as usize;
-    let layer = any_layer(random, count).with_budget(random.of_any_size(2_000));
+    let layer = free_layer(random, count).with_budget(random.of_any_size(2_000));
     let input = whole_stream(random, &layer);
     checker.input(Family::Streams, input, large_enough(random))
 }
 
 fn made_layer(checker: &mut Checker, random: &mut Random) -> Result<(), Finding> {
     let count = random.between(1, 512) as usize;
-    let layer = made(random, count);
+    let mut layer = made(random, count);
+    if random.once_in(2) {
+        fix(random, &mut layer);
+    }
     at_some_budget(checker, random, Family::Made, &layer, GREATEST_BUDGET)
 }
 

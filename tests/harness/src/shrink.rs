@@ -11,22 +11,26 @@ pub fn smallest_text(start: &[u8], differs: &dyn Fn(&[u8]) -> bool) -> Vec<u8> {
     }
 }
 
-/// The pieces of a layer that stays larger than this are left where they are.
+/// The pieces of a layer that stays larger than this are left where they are, and its fixed masks are all
+/// kept or none.
 const MOST_MOVED: usize = 100;
 
-/// Removes pieces and lowers numbers.
+/// Removes pieces, with their fixed masks or these alone, and lowers numbers.
 pub fn layer(start: &Layer, differs: &dyn Fn(&Layer) -> bool) -> Layer {
     let mut smallest = start.clone();
     loop {
-        let before = smallest.clone();
         lower_numbers(&mut smallest, differs, &settings_of);
+        // Where nothing changes from here on, another pass would change nothing either.
+        let before = smallest.clone();
         smallest.pieces = fewer(&smallest.pieces, &|pieces| {
             let settings = smallest.settings;
             let pieces = pieces.to_vec();
             differs(&Layer { settings, pieces })
         });
+        fewer_fixed(&mut smallest, differs);
         lower_numbers(&mut smallest, differs, &axes_of);
         if smallest.pieces.len() <= MOST_MOVED {
+            lower_numbers(&mut smallest, differs, &fixed_of);
             lower_numbers(&mut smallest, differs, &places_of);
             lower_numbers(&mut smallest, differs, &numbers_of);
         }
@@ -34,6 +38,25 @@ pub fn layer(start: &Layer, differs: &dyn Fn(&Layer) -> bool) -> Layer {
             return smallest;
         }
     }
+}
+
+/// Lets go of fixed masks.
+fn fewer_fixed(layer: &mut Layer, differs: &dyn Fn(&Layer) -> bool) {
+    let is_fixed = |&piece: &usize| layer.pieces[piece].fixed.is_some();
+    let fixed: Vec<usize> = (0..layer.pieces.len()).filter(is_fixed).collect();
+    let with = |kept: &[usize]| {
+        let mut layer = layer.clone();
+        let others = layer.pieces.iter_mut().enumerate();
+        let others = others.filter(|(piece, _)| !kept.contains(piece));
+        others.for_each(|(_, piece)| piece.fixed = None);
+        layer
+    };
+    let kept = match layer.pieces.len() {
+        0..=MOST_MOVED => fewer(&fixed, &|kept| differs(&with(kept))),
+        _ if differs(&with(&[])) => Vec::new(),
+        _ => fixed,
+    };
+    *layer = with(&kept);
 }
 
 /// Removes pieces, lines and bytes.
@@ -64,7 +87,8 @@ fn fewer_pieces(text: &mut Vec<u8>, differs: &dyn Fn(&[u8]) -> bool) {
     }
 }
 
-/// The text without a piece line, if the line is one and the text states a number of pieces.
+/// The text without a piece line, if the line is one and the text states a number of pieces. Fixed lines
+/// follow their pieces.
 fn without_piece(text: &[u8], line: usize) -> Option<Vec<u8>> {
     let mut lines = lines(text);
     let stated = lines.iter().position(|line| line.starts_with(b"pieces="))?;
@@ -74,9 +98,31 @@ fn without_piece(text: &[u8], line: usize) -> Option<Vec<u8>> {
     if !lines[line].starts_with(b"piece=") {
         return None;
     }
+    let before = lines[..line].iter();
+    let removed = before.filter(|line| line.starts_with(b"piece=")).count();
     lines[stated] = fewer.as_bytes();
     lines.remove(line);
-    Some(lines.concat())
+    let kept: Vec<Vec<u8>> = (lines.iter())
+        .filter_map(|line| without_number(line, removed as u64))
+        .collect();
+    Some(kept.concat())
+}
+
+/// A line of a text that has lost a piece: none if it fixed that piece, another one if it fixes a later
+/// piece.
+fn without_number(line: &[u8], removed: u64) -> Option<Vec<u8>> {
+    let fixed = || {
+        let line = std::str::from_utf8(line).ok()?;
+        let (piece, mask) = line.strip_prefix("fixed=")?.split_once(',')?;
+        Some((piece.parse::<u64>().ok()?, mask))
+    };
+    match fixed() {
+        Some((piece, _)) if piece == removed => None,
+        Some((piece, mask)) if piece > removed => {
+            Some(format!("fixed={},{mask}", piece - 1).into_bytes())
+        }
+        _ => Some(line.to_vec()),
+    }
 }
 
 /// A list that stays longer than this is not gone through item by item.
@@ -145,6 +191,11 @@ fn settings_of(layer: &mut Layer) -> Vec<Together<'_>> {
     .into()
 }
 
+fn fixed_of(layer: &mut Layer) -> Vec<Together<'_>> {
+    let fixed = layer.pieces.iter_mut().filter_map(|p| p.fixed.as_mut());
+    fixed.map(|mask| vec![mask]).collect()
+}
+
 /// All pieces move together.
 fn axes_of(layer: &mut Layer) -> Vec<Together<'_>> {
     let (mut xs, mut ys) = (Vec::new(), Vec::new());
@@ -188,6 +239,7 @@ mod tests {
             y1: 200,
             x2: 300,
             y2: 400,
+            fixed: None,
         };
         let settings = Settings {
             masks: 5,
@@ -220,5 +272,45 @@ mod tests {
             text.contains("39") && text.contains(&format!("pieces={there}\n"))
         };
         assert_eq!(text(start, &differs), b"pieces=1\npiece=39");
+    }
+
+    #[test]
+    fn fixed_masks_go_one_by_one() {
+        let settings = Settings {
+            masks: 8,
+            spacing: 80,
+            margin: 10,
+            weight: 10,
+            budget: 0,
+        };
+        let piece = |shape| Piece {
+            fixed: Some(shape % 8),
+            ..Piece::at_corner(shape)
+        };
+        let pieces = (0..40).map(piece).collect();
+        let start = Layer { settings, pieces };
+        let high = |p: &&Piece| p.fixed.map_or(false, |mask| mask >= 3);
+        let differs = |layer: &Layer| {
+            let count = layer.pieces.iter().filter(high).count();
+            layer.pieces.len() >= 3 && count >= 1
+        };
+        let text = layer(&start, &differs).text();
+        let text = String::from_utf8_lossy(&text);
+        assert_eq!(text.matches("piece=").count(), 3);
+        let fixed: Vec<&str> = text.lines().filter(|l| l.starts_with("fixed")).collect();
+        assert_eq!(fixed.len(), 1);
+        assert!(fixed[0].ends_with(",3"));
+    }
+
+    #[test]
+    fn fixed_lines_follow_their_pieces() {
+        let start = b"pieces=3\npiece=1\npiece=2\npiece=39\nfixed=1,5\nfixed=2,7\nfixed=9,0\n";
+        let differs = |text: &[u8]| {
+            let text = String::from_utf8_lossy(text);
+            let there = text.matches("piece=").count();
+            let last = format!("fixed={},7\n", there.saturating_sub(1));
+            text.contains("39") && text.contains(&last) && text.contains(&format!("={there}\n"))
+        };
+        assert_eq!(text(start, &differs), b"=1\npiece=39fixed=0,7\n");
     }
 }

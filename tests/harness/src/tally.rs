@@ -35,10 +35,10 @@ impl Family {
 }
 
 /// The refusals that a text can meet, and those that a stream can.
-const OF_TEXTS: [usize; 6] = [1, 2, 3, 4, 5, 6];
+const OF_TEXTS: [usize; 8] = [1, 2, 3, 4, 5, 6, 13, 14];
 const OF_STREAMS: [usize; 8] = [1, 2, 3, 4, 6, 9, 10, 11];
 
-/// A unit can have all the pieces that a layer can have.
+/// A unit can have all the pieces that a layer can have, and all can be fixed.
 const MOST_PIECES: usize = 512;
 
 #[derive(Default)]
@@ -53,14 +53,16 @@ pub struct Tally {
     /// Streams that were decomposed.
     streams: u64,
     /// Refusals by number, of texts and of streams.
-    refused: [[u64; 12]; 2],
+    refused: [[u64; 15]; 2],
     /// Layers whose cost was compared with that of all assignments.
     pub least: u64,
-    /// Layers that were decomposed, and those that had each kind of tie or edge.
+    /// Layers that were decomposed, and those that had each kind of tie, edge or fixed mask.
     layers: u64,
     kinds: [u64; KINDS.len()],
     /// The pieces of the largest unit.
     largest: usize,
+    /// The most fixed pieces of a layer.
+    most_fixed: usize,
 }
 
 impl Tally {
@@ -94,7 +96,7 @@ impl Tally {
         self.stitched += u64::from(field(text, "stitches=") != Some(0));
     }
 
-    /// Counts what ties do in a layer that was decomposed.
+    /// Counts what ties and fixed masks do in a layer that was decomposed.
     pub fn count_layer(&mut self, layer: &Layer) {
         let found = kinds(layer);
         self.layers += 1;
@@ -102,9 +104,10 @@ impl Tally {
             *count += u64::from(there);
         }
         self.largest = self.largest.max(found.largest);
+        self.most_fixed = self.most_fixed.max(found.fixed);
     }
 
-    /// Whether every answer that a call can give was seen, and all that ties can do.
+    /// Whether every answer that a call can give was seen, and all that ties and fixed masks can do.
     pub fn is_complete(&self) -> bool {
         let counts = [
             self.best,
@@ -118,13 +121,14 @@ impl Tally {
         let streams = OF_STREAMS.map(|number| self.refused[1][number]);
         let mut all = (counts.iter().chain(&self.families).chain(&self.kinds))
             .chain(texts.iter().chain(&streams));
-        all.all(|&count| count > 0) && self.largest == MOST_PIECES
+        let most = [self.largest, self.most_fixed] == [MOST_PIECES; 2];
+        all.all(|&count| count > 0) && most
     }
 
     /// One line.
     pub fn summary(&self) -> String {
         format!(
-            "{} answers agree ({}); best {}, open {}, with steps {}, with stitches {}; texts refused {}; streams decomposed {}, refused {}; least cost of {} layers; of {} layers with {}; largest unit {}",
+            "{} answers agree ({}); best {}, open {}, with steps {}, with stitches {}; texts refused {}; streams decomposed {}, refused {}; least cost of {} layers; of {} layers with {}; largest unit {}, most fixed {}",
             self.cases(),
             named(&FAMILIES, &self.families),
             self.best,
@@ -137,7 +141,8 @@ impl Tally {
             self.least,
             self.layers,
             named(&KINDS, &self.kinds),
-            self.largest
+            self.largest,
+            self.most_fixed
         )
     }
 }

@@ -17,11 +17,11 @@ use Rattle.core_search.proofs.search_core.Statement.{statement}
 use Rattle.core_search.proofs.search_core.Tie as tie
 
 abbrev Inv-loop : tie.InvT-loop
-Inv-loop conflicts stitches near stitched units n core numbers₀ result₀ order₀ starts₀ list₀ incumbent₀ left₀ rest₀ numbers result order starts list incumbent left rest =
-    CoreLeft (unitGraph conflicts stitches units n) core numbers₀ result₀ numbers result left rest × (length order ≡ 512) × (length starts ≡ 1025) × (length list ≡ 131584)
+Inv-loop conflicts stitches near stitched units n fixed core numbers₀ result₀ order₀ local₀ starts₀ list₀ incumbent₀ left₀ rest₀ numbers result order local starts list incumbent left rest =
+    CoreLeft (unitGraph conflicts stitches units n) fixed core numbers₀ result₀ numbers result left rest × (length order ≡ 512) × (length local ≡ 512) × (length starts ≡ 1025) × (length list ≡ 131584)
 
 abbrev μ-loop : tie.MeasureT-loop
-μ-loop conflicts stitches near stitched units n core numbers₀ result₀ order₀ starts₀ list₀ incumbent₀ left₀ rest₀ numbers result order starts list incumbent left rest =
+μ-loop conflicts stitches near stitched units n fixed core numbers₀ result₀ order₀ local₀ starts₀ list₀ incumbent₀ left₀ rest₀ numbers result order local starts list incumbent left rest =
     length (membersOf rest)
 
 -- a vertex is left
@@ -41,7 +41,7 @@ element-copy-out-left : tie.Need-element-copy-out-left Inv-loop μ-loop
 element-copy-out-left c = omega arith
 
 loop-holds : tie.Need-loop-holds Inv-loop μ-loop
-loop-holds c = (core-all (c .before .before .before .pre .1 .1 .1), refl, refl, refl)
+loop-holds c = (core-all (c .before .before .before .pre .1 .1 .1), refl, refl, refl, refl)
 
 lowest-requires : tie.Need-lowest-requires Inv-loop μ-loop
 lowest-requires c κs = tt
@@ -56,10 +56,10 @@ component-requires c κs =
 
 search-one-requires : tie.Need-search-one-requires Inv-loop μ-loop
 search-one-requires c κs =
-    let told = c .before .before .before .before .before .before .before in
+    let told = c .before .before .before .before .before .before .before .before in
     let else = told .before .before in
     let loop = else .before .before .before .loop in
-    (begun else .pre .0, (core-given (loop .inv .0) (joins else) (small else) (else .before .lowest .ensures) (told .component .ensures), (loop .inv .1, loop .inv .2, loop .inv .3)))
+    (begun else .pre .0, (core-given (loop .inv .0) (joins else) (small else) (else .before .lowest .ensures) (told .component .ensures), (loop .inv .1, loop .inv .2, loop .inv .3, loop .inv .4)))
 
 difference-of-requires : tie.Need-difference-of-requires Inv-loop μ-loop
 difference-of-requires c κs = tt
@@ -67,19 +67,20 @@ difference-of-requires c κs = tt
 loop-less : tie.Need-loop-less Inv-loop μ-loop
 loop-less c =
     let one = c .before .before .before .before .before in
-    let told = one .before .before .before .before .before .before .before .before in
+    let told = one .before .before .before .before .before .before .before .before .before in
     let else = told .before .before in
     fewer-left _ _ (small else) (else .before .lowest .ensures) (told .component .ensures) (c .difference-of .ensures)
 
 loop-again : tie.Need-loop-again Inv-loop μ-loop
 loop-again c =
     let one = c .before .before .before .before .before in
-    let told = one .before .before .before .before .before .before .before .before in
+    let told = one .before .before .before .before .before .before .before .before .before in
     let else = told .before .before in (
       core-next (else .before .before .before .loop .inv .0) (joins else) (small else) (else .before .lowest .ensures) (told .component .ensures) _ _ _ _ (c .difference-of .ensures) (one .search-one .ensures .0),
       one .search-one .ensures .1 .0,
       one .search-one .ensures .1 .1,
       one .search-one .ensures .1 .2,
+      one .search-one .ensures .1 .3,
     )
 
 same-length : tie.Need-same-length Inv-loop μ-loop

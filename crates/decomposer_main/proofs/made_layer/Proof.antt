@@ -2,17 +2,19 @@
 use borrow.Author.Needs.{needs}
 use Prim.Native.Nat.{_≤_, _-_}
 use native.Mathlib.Omega.{arith}
+use mathlib.Core.Path.{_≡_, refl, _∙_}
+use lib.ListN.{length}
 use Rattle.decomposer_main.proofs.made_layer.Statement.{statement}
 use Rattle.decomposer_main.proofs.made_layer.Tie as tie
 
 abbrev Inv-loop : tie.InvT-loop
-Inv-loop seed n flat₀ state₀ i₀ flat state i = i ≤ n
+Inv-loop seed n flat₀ fixed₀ state₀ i₀ flat fixed state i = (i ≤ n) × (length fixed ≡ 512)
 
 abbrev μ-loop : tie.MeasureT-loop
-μ-loop seed n flat₀ state₀ i₀ flat state i = n - i
+μ-loop seed n flat₀ fixed₀ state₀ i₀ flat fixed state i = n - i
 
 loop-holds : tie.Need-loop-holds Inv-loop μ-loop
-loop-holds c = omega arith
+loop-holds c = (omega arith, refl)
 
 next-requires : tie.Need-next-requires Inv-loop μ-loop
 next-requires c κs = search needs
@@ -36,7 +38,7 @@ loop-less : tie.Need-loop-less Inv-loop μ-loop
 loop-less c = omega arith
 
 loop-again : tie.Need-loop-again Inv-loop μ-loop
-loop-again c = omega arith
+loop-again c = (omega arith, c .put .ensures .whole ∙ c .before .before .before .before .before .before .before .loop .inv .1)
 
 returns : tie.Need-returns Inv-loop μ-loop
 returns c = search needs

@@ -7,8 +7,8 @@ use denote.Array
 use mathlib.Core.List
 use mir.Syntax
 
-abbrev pub ps : List.List (Kinds.PK 2)
-ps = List._∷_ (ShrSlice.pShrS Record.the-row 0 tt) (List._∷_ (Kinds.pMut (Array.Array (Referent.rtF (Referent.fInt Syntax.w32)) 2560) 1 tt) List.[])
+abbrev pub ps : List.List (Kinds.PK 3)
+ps = List._∷_ (ShrSlice.pShrS Record.the-row 0 tt) (List._∷_ (Kinds.pMut (Array.Array (Referent.rtF (Referent.fInt Syntax.w32)) 2560) 1 tt) (List._∷_ (Kinds.pMut (Array.Array (Referent.rtF (Referent.fInt Syntax.w8)) 512) 2 tt) List.[]))
 
-abbrev pub r : Kinds.RK 2
+abbrev pub r : Kinds.RK 3
 r = Kinds.rNum Syntax.w64

@@ -4,6 +4,7 @@ use mathlib.Core.Path.{refl}
 use Rattle.rules.proofs.Ranges.{settings-facts}
 use Rattle.layout.proofs.PieceLaws.{valid-flat}
 use Rattle.adjacency.proofs.AdjacencyLaws.{conflicts-both-ways, stitches-both-ways}
+use Rattle.decomposer.proofs.RunLaws.{unfixed-valid}
 use Rattle.stages.proofs.score_from_words.Statement.{statement}
 use Rattle.stages.proofs.score_from_words.Tie as tie
 
@@ -20,11 +21,11 @@ enum-told-2 : tie.Need-enum-told-2
 enum-told-2 c = search needs
 
 layer-units-requires : tie.Need-layer-units-requires
-layer-units-requires c κs = search needs
+layer-units-requires c κs = (unfixed-valid _ _ _ _ (c .before .before .before .before .before .before .before .pre), refl)
 
 score-words-requires : tie.Need-score-words-requires
 score-words-requires c κs =
-    let f = valid-flat _ _ _ (c .before .before .before .before .before .before .before .before .before .before .pre) in
+    let f = valid-flat _ _ _ (unfixed-valid _ _ _ _ (c .before .before .before .before .before .before .before .before .before .before .pre)) in
     let words = c .before .before .layer-units .ensures .0 in
     (settings-facts _ (f .settings) .weight .high, (f .count, (refl, (conflicts-both-ways words, stitches-both-ways words))))
 

@@ -1,4 +1,4 @@
--- `unit_stages`: the core has places among the masks, as all units have. Assumes nothing.
+-- `unit_stages`: the core has places among the masks and fixed masks, as all units have. Assumes nothing.
 use borrow.Author.Needs.{needs}
 use Rattle.decomposer.proofs.CoreSearch.{core-given}
 use Rattle.stages.proofs.unit_stages.Statement.{statement}
@@ -17,7 +17,7 @@ returns : tie.Need-returns
 returns c = search needs
 
 peel-requires : tie.Need-peel-requires
-peel-requires c κs = search needs
+peel-requires c κs = c .before .before .before .before .before .before .before .before .before .before .before .before .pre .1 .1 .1 .whole
 
 returns-2 : tie.Need-returns-2
 returns-2 c = search needs
@@ -31,10 +31,11 @@ search-core-requires c κs =
     let taken : tie.After-peel = numbered .before .before in
     let merged2 : tie.After-merge-words2 = taken .before .before .before .before .before .before .before .before in
     let merged : tie.After-merge-words = merged2 .before .before in
-    let start : tie.Start = merged .before .before .before in (
-      start .pre .1 .0,
-      (merged .merge-words .ensures, (merged2 .merge-words2 .ensures, core-given _ (numbered .numbers-of .ensures) (start .pre .0) (λ u l m. start .pre .1 .1 u l (taken .peel .ensures .inside u m)))),
-    )
+    let start : tie.Start = merged .before .before .before in
+    let within = taken .peel .ensures .inside in
+    let fixed = start .pre .1 .1 .1 in
+    let given = core-given _ (numbered .numbers-of .ensures) (start .pre .0) (λ u l m. start .pre .1 .1 .0 u l (within u m)) (record { whole = fixed .whole; low = λ u l m. fixed .low u l (within u m) }) in
+    (start .pre .1 .0, (merged .merge-words .ensures, (merged2 .merge-words2 .ensures, given)))
 
 same-length : tie.Need-same-length
 same-length c = search needs

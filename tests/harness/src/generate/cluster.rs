@@ -240,6 +240,7 @@ fn numbered(random: &mut Random, rects: Vec<Rect>) -> Vec<Piece> {
         y1: (r.y.from + dy) as u64,
         x2: (r.x.to + dx) as u64,
         y2: (r.y.to + dy) as u64,
+        fixed: None,
     };
     rects.into_iter().map(piece).collect()
 }

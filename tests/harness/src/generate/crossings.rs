@@ -58,6 +58,7 @@ fn wire(random: &mut Random, shape: u64, style: &Style) -> Vec<Piece> {
             y1,
             x2,
             y2,
+            fixed: None,
         });
     }
     if random.once_in(2) {

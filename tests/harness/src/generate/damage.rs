@@ -3,12 +3,13 @@
 use std::ops::Range;
 
 use super::any_layer;
+use super::fixed_lines::change_fixed;
 use crate::layer::Layer;
 use crate::random::Random;
 use crate::reference::{self, Mutation};
 
 /// Bytes that mean something in a layer text, or nearly so.
-const TELLING: &[u8] = b"\n\n\r,,==0123456789 +-.mspPk\t\0\x7f\x80\xff";
+const TELLING: &[u8] = b"\n\n\r,,==0123456789 +-.mspPkfd\t\0\x7f\x80\xff";
 
 /// Numbers at the ends of ranges and of words.
 const TELLING_NUMBERS: [u128; 22] = [
@@ -79,7 +80,7 @@ fn is_short_work(text: &[u8]) -> bool {
 }
 
 pub fn with_fault(random: &mut Random, mut text: Vec<u8>) -> Vec<u8> {
-    match random.below(32) {
+    match random.below(38) {
         0..=2 => change_byte(random, &mut text),
         3..=5 => remove_byte(random, &mut text),
         6..=8 => insert_byte(random, &mut text),
@@ -89,6 +90,7 @@ pub fn with_fault(random: &mut Random, mut text: Vec<u8>) -> Vec<u8> {
         26..=27 => append(random, &mut text),
         28 => text.truncate(random.index(text.len() + 1)),
         29 => text = random_bytes(random),
+        30..=35 => change_fixed(random, &mut text),
         _ => stretch(random, &mut text),
     }
     text
@@ -174,10 +176,11 @@ fn other_number(random: &mut Random, old: &str) -> String {
 
 /// Something after the last line.
 fn append(random: &mut Random, text: &mut Vec<u8>) {
-    match random.below(4) {
+    match random.below(5) {
         0 => text.push(b'\n'),
         1 => text.push(telling_byte(random)),
         2 => text.extend(b"piece=0,0,0,1,1\n"),
+        3 => text.extend(b"fixed=0,0\n"),
         _ => text.extend(text.clone()),
     }
 }
@@ -196,7 +199,14 @@ fn stretch(random: &mut Random, text: &mut Vec<u8>) {
         1 => numbers(text).first().map_or(0, |number| number.end),
         _ => random.index(text.len() + 1),
     };
-    let filling = random.pick(&[b"1".as_slice(), b"0", b"\n", b"piece=0,0,0,1,1\n", b"x"]);
+    let filling = random.pick(&[
+        b"1".as_slice(),
+        b"0",
+        b"\n",
+        b"piece=0,0,0,1,1\n",
+        b"fixed=0,0\n",
+        b"x",
+    ]);
     let filling = filling.iter().copied().cycle().take(missing);
     text.splice(at..at, filling);
 }

@@ -44,7 +44,7 @@ pub fn at_limits() -> Vec<Vec<u8>> {
 }
 
 /// The ends of a range, what lies beside them, and what becomes them when cut to 32 bits.
-fn around(least: u64, greatest: u64) -> Vec<u64> {
+pub fn around(least: u64, greatest: u64) -> Vec<u64> {
     let wrapped = 1 << 32;
     vec![
         least.saturating_sub(1),
@@ -68,6 +68,7 @@ pub fn row(count: u64) -> Layer {
         y1: 0,
         x2: 40 * shape + 20,
         y2: 20,
+        fixed: None,
     };
     Layer {
         settings: Settings {
@@ -81,6 +82,30 @@ pub fn row(count: u64) -> Layer {
     }
 }
 
+/// A unit of pieces 0, 3 and 2, the ties in this order. Piece 1 is in conflict with all others, and piece
+/// 4 has stitch edges to pieces 0 and 3.
+pub fn knot() -> Layer {
+    let piece = |[shape, x1, y1]: [u64; 3]| Piece {
+        shape,
+        x1,
+        y1,
+        x2: x1 + 20,
+        y2: y1 + 20,
+        fixed: None,
+    };
+    let corners = [[0, 0, 0], [1, 60, 60], [0, 40, 22], [0, 20, 11], [0, 0, 20]];
+    Layer {
+        settings: Settings {
+            masks: 2,
+            spacing: 80,
+            margin: 10,
+            weight: 7,
+            budget: 0,
+        },
+        pieces: corners.map(piece).to_vec(),
+    }
+}
+
 /// A text that states one number of pieces and has another.
 fn miscounted((stated, there): (u64, u64)) -> Vec<u8> {
     let text = String::from_utf8(row(there).text()).expect("a layer text is ASCII");
@@ -89,18 +114,19 @@ fn miscounted((stated, there): (u64, u64)) -> Vec<u8> {
 }
 
 /// As many conflict edges as there can be: all pieces in one place.
-fn heap() -> Vec<Piece> {
+pub fn heap() -> Vec<Piece> {
     (0..512).map(Piece::at_corner).collect()
 }
 
 /// Stitch edges only: one shape in 16 rows of 32 cells.
-fn sheet() -> Vec<Piece> {
+pub fn sheet() -> Vec<Piece> {
     let cell = |number: u64| Piece {
         shape: 0,
         x1: number % 32,
         y1: number / 32,
         x2: number % 32 + 1,
         y2: number / 32 + 1,
+        fixed: None,
     };
     (0..512).map(cell).collect()
 }
@@ -127,29 +153,30 @@ fn link(shape: u64, position: u64) -> Piece {
         y1: position % 2,
         x2: 2 * position + 2,
         y2: position % 2 + 2,
+        fixed: None,
     }
 }
 
 /// A chain of 512 pieces, with the position of each number.
-fn chain(position: impl Fn(u64) -> u64) -> Vec<Piece> {
+pub fn chain(position: impl Fn(u64) -> u64) -> Vec<Piece> {
     (0..512).map(|number| link(0, position(number))).collect()
 }
 
 /// Chains in one place, numbered in turn.
-fn chains(shapes: u64) -> Vec<Piece> {
+pub fn chains(shapes: u64) -> Vec<Piece> {
     (0..512)
         .map(|number| link(number % shapes, number / shapes))
         .collect()
 }
 
 /// A contact of 1 nm ties.
-fn tied(pieces: Vec<Piece>, masks: u64, budget: u64) -> Layer {
+pub fn tied(pieces: Vec<Piece>, masks: u64, budget: u64) -> Layer {
     let mut layer = largest(pieces, masks, budget);
     layer.settings.margin = 2;
     layer
 }
 
-fn largest(pieces: Vec<Piece>, masks: u64, budget: u64) -> Layer {
+pub fn largest(pieces: Vec<Piece>, masks: u64, budget: u64) -> Layer {
     Layer {
         settings: Settings {
             masks,

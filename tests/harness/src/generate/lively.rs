@@ -1,7 +1,7 @@
 //! Small layers whose search has something to do. Most random layers of few pieces are peeled
 //! whole, so the best of several is taken.
 
-use super::any_layer;
+use super::{fix, free_layer};
 use crate::layer::Layer;
 use crate::random::Random;
 use crate::reference::{self, Mutation};
@@ -9,17 +9,27 @@ use crate::reference::{self, Mutation};
 /// A search that needs more steps than this counts as too long.
 const SHORT: u64 = 250;
 
-/// The liveliest of some layers of at most twelve pieces.
+/// The liveliest of some layers of at most twelve pieces. Whether they may have fixed masks is chosen for all
+/// of them, since those that have win most often.
 pub fn lively(random: &mut Random) -> Layer {
-    let mut liveliest = any_layer(random, 12);
+    let fixed = random.once_in(2);
+    let mut liveliest = some_layer(random, 12, fixed);
     for _ in 0..12 {
         let count = random.between(4, 12) as usize;
-        let layer = any_layer(random, count);
+        let layer = some_layer(random, count, fixed);
         if liveliness(&layer) > liveliness(&liveliest) {
             liveliest = layer;
         }
     }
     liveliest
+}
+
+fn some_layer(random: &mut Random, count: usize, fixed: bool) -> Layer {
+    let mut layer = free_layer(random, count);
+    if fixed {
+        fix(random, &mut layer);
+    }
+    layer
 }
 
 /// Stitches in the best result count most, then a search that improves on the first assignment,

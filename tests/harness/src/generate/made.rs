@@ -26,6 +26,7 @@ fn squares(seed: u32, count: usize) -> Vec<Piece> {
             y1,
             x2: x1 + 20,
             y2: y1 + 20,
+            fixed: None,
         }
     };
     (0..count as u64).map(square).collect()

@@ -39,6 +39,9 @@ pub fn any_masks(random: &mut Random, layer: &Layer) -> Vec<u8> {
     let units = reference::units_of(layer);
     let limit = layer.settings.masks;
     let mut masks = keeping_ties(random, &units, limit);
+    if random.once_in(2) {
+        keep_fixed(layer, &units, &mut masks);
+    }
     leave_unset(random, &units, &mut masks);
     if random.once_in(3) {
         split_units(random, &units, limit, &mut masks);
@@ -74,8 +77,18 @@ pub fn keeping_ties(random: &mut Random, units: &[usize], limit: u64) -> Vec<u64
     units.iter().map(|&unit| of_units[unit]).collect()
 }
 
+/// Gives each unit the mask that it is fixed to.
+fn keep_fixed(layer: &Layer, units: &[usize], masks: &mut [u64]) {
+    for (number, piece) in layer.pieces.iter().enumerate() {
+        if let Some(fixed) = piece.fixed {
+            let of_unit = (0..masks.len()).filter(|&other| units[other] == units[number]);
+            of_unit.for_each(|other| masks[other] = fixed);
+        }
+    }
+}
+
 /// Takes back the masks of some pieces, of all or of none.
-fn leave_unset(random: &mut Random, units: &[usize], masks: &mut [u64]) {
+pub fn leave_unset(random: &mut Random, units: &[usize], masks: &mut [u64]) {
     let pieces = masks.len();
     if pieces == 0 {
         return;
@@ -154,6 +167,9 @@ fn text(numbers: &[String]) -> Vec<u8> {
     }
     text
 }
+
+/// How many lists `plain_masks` gives.
+pub const PLAIN_LISTS: usize = 11;
 
 /// Lists with nothing random for a layer of so many pieces.
 pub fn plain_masks(pieces: usize, limit: u64) -> Vec<Vec<u8>> {

@@ -3,6 +3,9 @@
 mod cluster;
 mod crossings;
 mod damage;
+mod fixed;
+mod fixed_limits;
+mod fixed_lines;
 mod limits;
 mod lively;
 mod made;
@@ -16,14 +19,25 @@ use crate::layer::{Layer, Piece, Settings};
 use crate::random::Random;
 use crate::reference;
 pub use damage::damaged;
-pub use limits::at_limits;
+pub use fixed::fix;
+pub use fixed_limits::{fixed_at_limits, fixed_runs};
+pub use limits::{at_limits, knot};
 pub use lively::lively;
 pub use made::made;
-pub use masks::{any_masks, keeping_ties, plain_masks, split_units, stray_masks};
+pub use masks::{any_masks, keeping_ties, plain_masks, split_units, stray_masks, PLAIN_LISTS};
 pub use streams::{damaged_stream, streams_at_limits, whole_stream};
 
-/// A layer of at most `count` pieces, of one of five kinds, with a budget of 0.
+/// A layer of at most `count` pieces with a budget of 0. Half of them may have fixed masks.
 pub fn any_layer(random: &mut Random, count: usize) -> Layer {
+    let mut layer = free_layer(random, count);
+    if random.once_in(2) {
+        fix(random, &mut layer);
+    }
+    layer
+}
+
+/// A layer without fixed masks, of one of five kinds.
+pub fn free_layer(random: &mut Random, count: usize) -> Layer {
     match random.below(5) {
         0 => wires::wires(random, count),
         1 => cluster::cluster(random, count),

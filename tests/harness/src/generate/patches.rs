@@ -74,6 +74,7 @@ fn patch(random: &mut Random, style: &Style, shape: u64, at: (u64, u64)) -> Vec<
                     y1: y + row[0],
                     x2: x + column[1],
                     y2: y + row[1],
+                    fixed: None,
                 });
             }
         }

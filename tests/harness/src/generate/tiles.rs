@@ -28,6 +28,7 @@ pub fn tiles(random: &mut Random, count: usize) -> Layer {
                     y1: y[0],
                     x2: x[1],
                     y2: y[1],
+                    fixed: None,
                 });
             }
         }

@@ -85,6 +85,7 @@ fn wire(random: &mut Random, style: &Style, shape: u64, at: (u64, u64)) -> Vec<P
             y1: y,
             x2: x + length,
             y2: y + style.height,
+            fixed: None,
         });
         x += length;
         raised = match raised {

@@ -16,7 +16,7 @@ impl Mutation {
     ];
 
     /// Faults that a layer text shows beside these.
-    pub const OF_LAYERS: [Mutation; 30] = [
+    pub const OF_LAYERS: [Mutation; 56] = [
         Mutation::UnitByHighest,
         Mutation::InsideEdgesCounted,
         Mutation::DoubledConflictsOnce,
@@ -39,9 +39,35 @@ impl Mutation {
         Mutation::WrapAt32Bits,
         Mutation::WrapAt64Bits,
         Mutation::LastNewlineOptional,
-        Mutation::OverlapBeforeSurplus,
+        Mutation::OverlapBeforeFixed,
         Mutation::EarlierPieceNamed,
         Mutation::TextOneLonger,
+        Mutation::FixedFalling,
+        Mutation::FixedTwice,
+        Mutation::FixedRangeFirst,
+        Mutation::FixedRangeLate,
+        Mutation::FixedRangeIsFour,
+        Mutation::FixedMaskAtLimit,
+        Mutation::FixedMaskUnset,
+        Mutation::FixedPieceAtCount,
+        Mutation::LastFixedIgnored,
+        Mutation::FixedLinesOneFewer,
+        Mutation::DifferByPiece,
+        Mutation::DifferByTies,
+        Mutation::DifferByLowest,
+        Mutation::DifferNamesEarlier,
+        Mutation::DifferNamesLast,
+        Mutation::DifferBeforeOverlap,
+        Mutation::UnitFixedByLowest,
+        Mutation::FixedPeeled,
+        Mutation::FixedNotCounted,
+        Mutation::FixedSplitsComponent,
+        Mutation::FirstIgnoresFixed,
+        Mutation::CandidatesIgnoreFixed,
+        Mutation::FixedRenamed,
+        Mutation::FixedLiftsAll,
+        Mutation::FixedLiftsLater,
+        Mutation::FixedStepFree,
         Mutation::BufferOneShorter,
         Mutation::ZeroAfterResult,
         Mutation::ClearedOnRefusal,
@@ -50,7 +76,7 @@ impl Mutation {
     ];
 
     /// Faults that only a stream shows.
-    pub const OF_STREAMS: [Mutation; 51] = [
+    pub const OF_STREAMS: [Mutation; 52] = [
         Mutation::SettingsOneLonger,
         Mutation::StreamOneLonger,
         Mutation::StreamSizeLate,
@@ -59,6 +85,7 @@ impl Mutation {
         Mutation::SettingsCountAny,
         Mutation::SettingsCountLate,
         Mutation::TextAfterSettings,
+        Mutation::FixedInSettings,
         Mutation::RecordsFromZero,
         Mutation::CutNamesLast,
         Mutation::LongerData,
@@ -105,7 +132,7 @@ impl Mutation {
     ];
 
     /// Faults of scoring alone.
-    pub const OF_SCORES: [Mutation; 30] = [
+    pub const OF_SCORES: [Mutation; 33] = [
         Mutation::MasksWrapAt8Bits,
         Mutation::MasksWrapAt32Bits,
         Mutation::MasksWrapAt64Bits,
@@ -126,6 +153,9 @@ impl Mutation {
         Mutation::LastSplitNamed,
         Mutation::SplitFirst,
         Mutation::PieceByPiece,
+        Mutation::DifferAfterMasks,
+        Mutation::BrokenFixedRefused,
+        Mutation::UnsetFromFixed,
         Mutation::UnsetConflict,
         Mutation::HalfSetConflict,
         Mutation::HalfSetStitch,

@@ -5,6 +5,9 @@
 
 mod edges;
 mod faults;
+mod fixed;
+#[cfg(test)]
+mod fixed_tests;
 mod kinds;
 mod masks;
 mod mutation;
@@ -27,6 +30,7 @@ mod units;
 
 use crate::layer::Layer;
 use edges::Edges;
+use fixed::judge_fixed;
 pub use kinds::{kinds, KINDS};
 pub use masks::{is_set, mask_lines, read_masks, UNSET};
 pub use mutation::Mutation;
@@ -94,7 +98,13 @@ pub fn answer_score(layer: &[u8], masks: &[u8], wrong: Mutation) -> Option<Answe
     if wrong == Mutation::LongListFirst && masks.len() > 512 {
         return Some(Err(Refusal::new(7, 0)));
     }
-    let scored = read(layer, wrong).and_then(|layer| score(&layer, &masks, wrong));
+    let scored = read(layer, wrong).and_then(|layer| {
+        let scored = score(&layer, &masks, wrong)?;
+        if wrong == Mutation::DifferAfterMasks {
+            judge_fixed(&layer, Mutation::None)?;
+        }
+        Ok(scored)
+    });
     Some(scored.map(|scored| scored.text().into_bytes()))
 }
 
@@ -118,7 +128,7 @@ fn judge_room(result_size: usize, wrong: Mutation) -> Result<(), Refusal> {
 pub fn run(layer: &Layer, wrong: Mutation) -> Run {
     let edges = Edges::of(layer, wrong);
     let units = ties::units(layer.pieces.len(), &edges.ties, wrong);
-    let graph = Graph::of(&edges, &units, wrong);
+    let graph = Graph::of(layer, &edges, &units, wrong);
     let peeled = peel::peel(&graph, layer.settings.masks, wrong);
     let searched = search::search(&graph, &peeled.core, &layer.settings, wrong);
     let of_units = peel::put_back(

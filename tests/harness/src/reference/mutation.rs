@@ -69,12 +69,67 @@ pub enum Mutation {
     WrapAt64Bits,
     /// The last line needs no byte 10.
     LastNewlineOptional,
-    /// Overlaps are judged before text after the last line.
-    OverlapBeforeSurplus,
+    /// Overlaps are judged before the lines after the last piece line.
+    OverlapBeforeFixed,
     /// Of two pieces that overlap the earlier one is named.
     EarlierPieceNamed,
     /// A text may have one byte more.
     TextOneLonger,
+
+    /// A fixed line may name a piece below that of the line before it.
+    FixedFalling,
+    /// A piece may be fixed twice; the second mask holds.
+    FixedTwice,
+    /// Piece and mask of a fixed line are judged before its order.
+    FixedRangeFirst,
+    /// They are judged after the forms of all fixed lines.
+    FixedRangeLate,
+    /// A piece or mask of a fixed line that is out of range is refusal 4.
+    FixedRangeIsFour,
+    /// The number of masks is let through as a fixed mask.
+    FixedMaskAtLimit,
+    /// A fixed mask of 255 is none.
+    FixedMaskUnset,
+    /// A fixed line may name the piece after the last; nothing is fixed by it.
+    FixedPieceAtCount,
+    /// The last fixed line is read and forgotten.
+    LastFixedIgnored,
+    /// There may be no more than 511 fixed lines.
+    FixedLinesOneFewer,
+
+    /// Fixed masks in a unit are not compared with each other.
+    DifferByPiece,
+    /// Fixed masks are compared with those of pieces that are tied directly.
+    DifferByTies,
+    /// Fixed masks are compared with that of the unit's lowest piece.
+    DifferByLowest,
+    /// Of two fixed masks in a unit that differ the earlier one is named.
+    DifferNamesEarlier,
+    /// Of several fixed masks that differ from an earlier one the last is named.
+    DifferNamesLast,
+    /// Fixed masks are compared before overlaps are judged.
+    DifferBeforeOverlap,
+
+    /// A unit is fixed only by its lowest piece.
+    UnitFixedByLowest,
+    /// A fixed unit may go like any other.
+    FixedPeeled,
+    /// Degrees leave out fixed units.
+    FixedNotCounted,
+    /// A fixed unit does not hold a component together.
+    FixedSplitsComponent,
+    /// The first assignment gives fixed units the cheapest mask.
+    FirstIgnoresFixed,
+    /// The search tries other masks too at a fixed unit.
+    CandidatesIgnoreFixed,
+    /// The limit by the number of masks used holds in components with a fixed unit too.
+    FixedRenamed,
+    /// A fixed unit lifts that limit in all components.
+    FixedLiftsAll,
+    /// A fixed unit lifts that limit at the places after it only.
+    FixedLiftsLater,
+    /// A mask tried at a fixed unit is no step.
+    FixedStepFree,
 
     /// A buffer may have one byte less.
     BufferOneShorter,
@@ -103,6 +158,8 @@ pub enum Mutation {
     SettingsCountLate,
     /// A settings text may have anything behind its lines.
     TextAfterSettings,
+    /// Text after the lines of a settings text is judged as fixed lines.
+    FixedInSettings,
 
     /// Records are counted from 0.
     RecordsFromZero,
@@ -237,6 +294,13 @@ pub enum Mutation {
     SplitFirst,
     /// A piece is through with both before the next one is looked at.
     PieceByPiece,
+
+    /// Fixed masks in a unit are compared after the masks are judged.
+    DifferAfterMasks,
+    /// Masks that are not the fixed ones are refused.
+    BrokenFixedRefused,
+    /// A piece that is not set counts with its fixed mask.
+    UnsetFromFixed,
 
     /// Two ends that are not set are a conflict.
     UnsetConflict,

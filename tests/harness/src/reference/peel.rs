@@ -1,4 +1,5 @@
-//! Units that can wait until the others have their masks (RULES 4 and 7).
+//! Units that can wait until the others have their masks (RULES 4 and 7). A fixed unit has its mask and waits
+//! for nothing.
 
 use super::mutation::Mutation;
 use super::ties::{Graph, Near};
@@ -55,8 +56,16 @@ fn may_go(
     masks: u64,
     wrong: Mutation,
 ) -> Option<Removed> {
+    let is_fixed = |unit: usize| graph.fixed[unit].is_some();
+    if is_fixed(unit) && wrong != Mutation::FixedPeeled {
+        return None;
+    }
+    let counts = |near: &Near| {
+        let left_out = wrong == Mutation::FixedNotCounted && is_fixed(near.unit);
+        there[near.unit] && !left_out
+    };
     let still_there =
-        |near: &[Near]| -> Vec<Near> { near.iter().copied().filter(|n| there[n.unit]).collect() };
+        |near: &[Near]| -> Vec<Near> { near.iter().copied().filter(counts).collect() };
     let conflicts = still_there(&graph.conflicts[unit]);
     let stitches = still_there(&graph.stitches[unit]);
     let conflict_degree = degree(&conflicts, wrong == Mutation::ConflictDegreeOfEdges);

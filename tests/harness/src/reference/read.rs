@@ -2,6 +2,8 @@
 //! (RULES 9 and 11).
 
 use super::edges::is_overlap;
+use super::fixed::judge_fixed;
+use super::masks::UNSET;
 use super::mutation::Mutation;
 use super::Refusal;
 use crate::layer::{Layer, Piece, Settings};
@@ -33,12 +35,22 @@ pub fn read(text: &[u8], wrong: Mutation) -> Result<Layer, Refusal> {
     for _ in 0..lines.number("pieces=", PIECES)? {
         pieces.push(lines.piece()?);
     }
-    if wrong == Mutation::OverlapBeforeSurplus {
+    if wrong == Mutation::OverlapBeforeFixed {
         judge_overlaps(&pieces, wrong)?;
     }
-    lines.end()?;
-    judge_overlaps(&pieces, wrong)?;
-    Ok(Layer { settings, pieces })
+    for (piece, mask) in lines.fixed(pieces.len() as u64, settings.masks)? {
+        // Only a fault lets through a piece that is not there.
+        if let Some(piece) = pieces.get_mut(piece as usize) {
+            piece.fixed = Some(mask);
+        }
+    }
+    let layer = Layer { settings, pieces };
+    if wrong == Mutation::DifferBeforeOverlap {
+        judge_fixed(&layer, wrong)?;
+    }
+    judge_overlaps(&layer.pieces, wrong)?;
+    judge_fixed(&layer, wrong)?;
+    Ok(layer)
 }
 
 /// A layer text without pieces, as it stands beside a stream.
@@ -54,8 +66,10 @@ pub fn read_settings(text: &[u8], wrong: Mutation) -> Result<Settings, Refusal> 
         }
         _ => drop(lines.number("pieces=", NO_PIECES)?),
     }
-    if wrong != Mutation::TextAfterSettings {
-        lines.end()?;
+    match wrong {
+        Mutation::TextAfterSettings => {}
+        Mutation::FixedInSettings => drop(lines.fixed(0, settings.masks)?),
+        _ => lines.end()?,
     }
     Ok(settings)
 }
@@ -124,6 +138,7 @@ impl<'a> Lines<'a> {
                 y1,
                 x2,
                 y2,
+                fixed: None,
             };
             Ok(piece)
         } else {
@@ -131,14 +146,87 @@ impl<'a> Lines<'a> {
         }
     }
 
-    /// The numbers of the next line: first its form, then the ranges.
-    fn numbers(&mut self, key: &str, ranges: &[Range]) -> Result<Vec<u64>, Refusal> {
+    /// The pieces and masks of the lines after the pieces, which go on to the end of the text. A layer
+    /// has so many pieces and masks.
+    fn fixed(&mut self, pieces: u64, masks: u64) -> Result<Vec<(u64, u64)>, Refusal> {
+        let mut fixed: Vec<(u64, u64)> = Vec::new();
+        let mut late = Ok(());
+        while !self.rest.is_empty() {
+            let last = fixed.last().map(|&(piece, _)| piece);
+            match self.fixed_line(last, pieces, masks) {
+                Err(refusal) if self.wrong == Mutation::FixedRangeLate && refusal.number == 13 => {
+                    late = late.and(Err(refusal));
+                }
+                line => fixed.push(line?),
+            }
+            if self.wrong == Mutation::FixedLinesOneFewer && fixed.len() == 512 {
+                return Err(self.refused(3));
+            }
+        }
+        late?;
+        match self.wrong {
+            Mutation::LastFixedIgnored => drop(fixed.pop()),
+            Mutation::FixedMaskUnset => fixed.retain(|&(_, mask)| mask != UNSET),
+            _ => {}
+        }
+        Ok(fixed)
+    }
+
+    /// The piece and the mask of the next line: first its form, to which it belongs that the piece is
+    /// above the last one, then whether there are such a piece and such a mask.
+    fn fixed_line(
+        &mut self,
+        last: Option<u64>,
+        pieces: u64,
+        masks: u64,
+    ) -> Result<(u64, u64), Refusal> {
+        let numbers = self.in_form("fixed=", 2)?;
+        let (piece, mask) = (numbers[0], numbers[1]);
+        let above = |last| match self.wrong {
+            Mutation::FixedFalling => piece != last,
+            Mutation::FixedTwice => piece >= last,
+            _ => piece > last,
+        };
+        let there = match self.wrong {
+            Mutation::FixedMaskAtLimit => piece < pieces && mask <= masks,
+            Mutation::FixedMaskUnset => piece < pieces && (mask < masks || mask == UNSET),
+            Mutation::FixedPieceAtCount => piece <= pieces && mask < masks,
+            _ => piece < pieces && mask < masks,
+        };
+        let number = match self.wrong {
+            Mutation::FixedRangeIsFour => 4,
+            _ => 13,
+        };
+        let order = self.asked(last.map_or(true, above), 3);
+        let range = self.asked(there, number);
+        match self.wrong {
+            Mutation::FixedRangeFirst => range.and(order)?,
+            _ => order.and(range)?,
+        }
+        Ok((piece, mask))
+    }
+
+    /// A question about the line that was read last.
+    fn asked(&self, yes: bool, number: u64) -> Result<(), Refusal> {
+        if yes {
+            Ok(())
+        } else {
+            Err(self.refused(number))
+        }
+    }
+
+    /// The numbers of the next line, which must have this form.
+    fn in_form(&mut self, key: &str, count: usize) -> Result<Vec<u64>, Refusal> {
         self.line += 1;
         let line = self.take_line().ok_or(self.refused(3))?;
         let numbers = numbers_after(key, line, self.wrong).ok_or(self.refused(3))?;
-        if numbers.len() != ranges.len() {
-            return Err(self.refused(3));
-        }
+        self.asked(numbers.len() == count, 3)?;
+        Ok(numbers)
+    }
+
+    /// The numbers of the next line: first its form, then the ranges.
+    fn numbers(&mut self, key: &str, ranges: &[Range]) -> Result<Vec<u64>, Refusal> {
+        let numbers = self.in_form(key, ranges.len())?;
         let mut both = numbers.iter().zip(ranges);
         if both.any(|(number, range)| !(range.0..=range.1).contains(number)) {
             return Err(self.refused(4));

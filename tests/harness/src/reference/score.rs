@@ -7,7 +7,7 @@ use super::masks::{is_set, judge_count, judge_masks, Judged};
 use super::mutation::Mutation;
 use super::ties::units;
 use super::Refusal;
-use crate::layer::Layer;
+use crate::layer::{Layer, Piece};
 
 #[derive(Clone, Copy, Debug, PartialEq, Eq)]
 pub struct Score {
@@ -56,6 +56,8 @@ pub fn score(layer: &Layer, masks: &[u64], wrong: Mutation) -> Result<Scored, Re
     };
     judge_masks(&masks, &judged, wrong)?;
     match wrong {
+        Mutation::BrokenFixedRefused => judge_broken(&masks, &layer.pieces)?,
+        Mutation::UnsetFromFixed => fill_fixed(&mut masks, &layer.pieces),
         Mutation::UnsetFromUnit => fill(&mut masks, &units),
         Mutation::DoubledEdgesOnce => {
             edges.conflicts = once(&edges.conflicts, &units);
@@ -76,6 +78,29 @@ fn counted((a, b): (usize, usize), is_edge: bool, masks: &[u64], wrong: Mutation
         // Only the last pair begins with the last piece but one.
         Mutation::LastPairNotCounted => u64::from(a + 2 != masks.len()),
         _ => 1,
+    }
+}
+
+/// A fault: set pieces must have their fixed masks.
+fn judge_broken(masks: &[u64], pieces: &[Piece]) -> Result<(), Refusal> {
+    let broken = |(&mask, piece): (&u64, &Piece)| is_set(mask) && breaks(piece, mask);
+    match masks.iter().zip(pieces).position(broken) {
+        Some(piece) => Err(Refusal::new(12, piece as u64)),
+        None => Ok(()),
+    }
+}
+
+/// Whether a piece is fixed to another mask.
+fn breaks(piece: &Piece, mask: u64) -> bool {
+    piece.fixed.map_or(false, |fixed| fixed != mask)
+}
+
+/// A fault: pieces that are not set have their fixed masks.
+fn fill_fixed(masks: &mut [u64], pieces: &[Piece]) {
+    for (mask, piece) in masks.iter_mut().zip(pieces) {
+        if !is_set(*mask) {
+            *mask = piece.fixed.unwrap_or(*mask);
+        }
     }
 }
 
@@ -136,22 +161,27 @@ fn is_stitch(a: u64, b: u64, wrong: Mutation) -> bool {
     }
 }
 
-/// The least cost over all assignments of a valid layer that break no tie. Only for layers of few
-/// pieces.
+/// The least cost over all assignments of a valid layer that break no tie and no fixed mask. Only for
+/// layers of few pieces.
 pub fn least_cost(layer: &Layer) -> u64 {
     let edges = Edges::of(layer, Mutation::None);
     let keeps_ties = |masks: &[u64]| edges.ties.iter().all(|&(a, b)| masks[a] == masks[b]);
+    let keeps_fixed = |masks: &[u64]| {
+        let mut both = masks.iter().zip(&layer.pieces);
+        !both.any(|(&mask, piece)| breaks(piece, mask))
+    };
     let weight = layer.settings.weight;
     let cost = |masks: &[u64]| score_of_edges(&edges, masks, weight, Mutation::None).cost;
-    // All on one mask breaks no tie.
     let mut masks = vec![0; layer.pieces.len()];
-    let mut least = cost(&masks);
-    while next_assignment(&mut masks, layer.settings.masks) {
-        if keeps_ties(&masks) {
+    let mut least = u64::MAX;
+    loop {
+        if keeps_ties(&masks) && keeps_fixed(&masks) {
             least = least.min(cost(&masks));
         }
+        if !next_assignment(&mut masks, layer.settings.masks) {
+            return least;
+        }
     }
-    least
 }
 
 /// Counts up, the masks being digits; false after the last assignment.

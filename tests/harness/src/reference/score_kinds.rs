@@ -21,6 +21,9 @@ pub const SCORE_KINDS: [&str; SCORED + REFUSED] = [
     "stitch edges unset",
     "units with their lowest unset",
     "units unset beside others",
+    "fixed masks kept",
+    "fixed masks broken",
+    "fixed pieces unset",
     "7 beside a mask out of range",
     "8 by 254",
     "8 by more than 255",
@@ -29,7 +32,7 @@ pub const SCORE_KINDS: [&str; SCORED + REFUSED] = [
     "12 over unset ties",
 ];
 
-const SCORED: usize = 11;
+const SCORED: usize = 14;
 const REFUSED: usize = 6;
 
 /// The place of the half-done ones among `SCORE_KINDS`.
@@ -50,13 +53,13 @@ pub fn score_kinds(
     };
     let mut there = [false; SCORE_KINDS.len()];
     match refused {
-        None => there[..SCORED].copy_from_slice(&of_scored(masks, &edges, &units)),
+        None => there[..SCORED].copy_from_slice(&of_scored(masks, layer, &edges, &units)),
         Some(refusal) => there[SCORED..].copy_from_slice(&of_refused(masks, &judged, refusal)),
     }
     there
 }
 
-fn of_scored(masks: &[u64], edges: &Edges, units: &[usize]) -> [bool; SCORED] {
+fn of_scored(masks: &[u64], layer: &Layer, edges: &Edges, units: &[usize]) -> [bool; SCORED] {
     let set = |piece: usize| is_set(masks[piece]);
     let of_set = masks.iter().filter(|&&mask| is_set(mask)).count();
     let half_done = 0 < of_set && of_set < masks.len();
@@ -67,6 +70,12 @@ fn of_scored(masks: &[u64], edges: &Edges, units: &[usize]) -> [bool; SCORED] {
     let set_pieces = (0..masks.len()).filter(|&piece| set(piece));
     set_pieces.for_each(|piece| of_units[units[piece]] += 1);
     let mut tied = (0..masks.len()).filter(|&piece| units[piece] != piece);
+    let pieces = layer.pieces.iter().zip(masks);
+    let fixed = pieces.filter_map(|(piece, &mask)| Some((piece.fixed?, mask)));
+    let fixed: Vec<(u64, u64)> = fixed.collect();
+    let broken = fixed
+        .iter()
+        .any(|&(fixed, mask)| is_set(mask) && fixed != mask);
     [
         of_set > 0 && !half_done,
         half_done,
@@ -79,6 +88,9 @@ fn of_scored(masks: &[u64], edges: &Edges, units: &[usize]) -> [bool; SCORED] {
         edges.stitches.iter().any(unset),
         tied.clone().any(|piece| set(piece) && !set(units[piece])),
         half_done && tied.any(|piece| of_units[units[piece]] == 0),
+        !broken && fixed.iter().any(|&(_, mask)| is_set(mask)),
+        broken,
+        fixed.iter().any(|&(_, mask)| !is_set(mask)),
     ]
 }
 

@@ -1,5 +1,7 @@
 //! Components of the core, their first assignments and the search within the budget (RULES 5, 6).
 
+use std::ops::Range;
+
 use super::mutation::Mutation;
 use super::ties::{Graph, Near};
 use crate::layer::Settings;
@@ -43,7 +45,7 @@ pub fn search(graph: &Graph, core: &[usize], settings: &Settings, wrong: Mutatio
 }
 
 /// The connected components in the order of their lowest unit, each rising.
-fn components(graph: &Graph, core: &[usize], wrong: Mutation) -> Vec<Vec<usize>> {
+pub fn components(graph: &Graph, core: &[usize], wrong: Mutation) -> Vec<Vec<usize>> {
     let mut left = vec![false; graph.size()];
     for &unit in core {
         left[unit] = true;
@@ -70,6 +72,9 @@ fn collect(
 ) {
     left[unit] = false;
     component.push(unit);
+    if wrong == Mutation::FixedSplitsComponent && graph.fixed[unit].is_some() {
+        return;
+    }
     let mut near = graph.conflicts[unit].clone();
     if wrong != Mutation::ComponentsByConflicts {
         near.extend(&graph.stitches[unit]);
@@ -133,13 +138,21 @@ impl<'a> Search<'a> {
             incumbent_cost: 0,
         };
         for &unit in component {
-            let mask = search.cheapest(unit);
+            let mask = search.first(unit);
             search.incumbent_cost += search.added(unit, mask);
             search.incumbent.push(mask);
             search.partial[unit] = Some(mask);
         }
         search.partial = vec![None; graph.size()];
         search
+    }
+
+    /// The mask of a unit in the first assignment.
+    fn first(&self, unit: usize) -> u64 {
+        match self.graph.fixed[unit] {
+            Some(mask) if self.wrong != Mutation::FirstIgnoresFixed => mask,
+            _ => self.cheapest(unit),
+        }
     }
 
     /// The lowest of the masks that add least at a unit.
@@ -185,8 +198,9 @@ impl<'a> Search<'a> {
         }
         let unit = self.component[place];
         let cost_on_entry = self.incumbent_cost;
-        for mask in 0..self.masks_to_try(place) {
-            if !self.budget.step() {
+        let free = self.wrong == Mutation::FixedStepFree && self.graph.fixed[unit].is_some();
+        for mask in self.masks_to_try(place) {
+            if !free && !self.budget.step() {
                 break;
             }
             let cost = cost + self.added(unit, mask);
@@ -198,8 +212,29 @@ impl<'a> Search<'a> {
         }
     }
 
+    /// The mask of a fixed unit. Other units have all masks to try where the component has a fixed one,
+    /// since exchanging masks makes a difference there.
+    fn masks_to_try(&self, place: usize) -> Range<u64> {
+        match self.graph.fixed[self.component[place]] {
+            Some(mask) if self.wrong != Mutation::CandidatesIgnoreFixed => mask..mask + 1,
+            _ if self.masks_have_names(place) => 0..self.settings.masks,
+            _ => 0..self.masks_in_turn(place),
+        }
+    }
+
+    /// Whether the component has a fixed unit.
+    fn masks_have_names(&self, place: usize) -> bool {
+        let is_fixed = |&unit: &usize| self.graph.fixed[unit].is_some();
+        match self.wrong {
+            Mutation::FixedRenamed => false,
+            Mutation::FixedLiftsAll => self.graph.units.iter().any(is_fixed),
+            Mutation::FixedLiftsLater => self.component[..place].iter().any(is_fixed),
+            _ => self.component.iter().any(is_fixed),
+        }
+    }
+
     /// One mask more than the earlier places use, and at most all.
-    fn masks_to_try(&self, place: usize) -> u64 {
+    fn masks_in_turn(&self, place: usize) -> u64 {
         let earlier = &self.component[..place];
         let used = |mask: &u64| {
             earlier

@@ -156,6 +156,7 @@ fn piece(element: &Element, wrong: Mutation) -> Option<Piece> {
         y1: y1?,
         x2: x2?,
         y2: y2?,
+        fixed: None,
     };
     (piece.shape <= 511).then_some(piece)
 }

@@ -11,6 +11,7 @@ pub fn layer(masks: u64, budget: u64, pieces: &[[u64; 5]]) -> Layer {
         y1,
         x2,
         y2,
+        fixed: None,
     };
     Layer {
         settings: Settings {
@@ -25,14 +26,14 @@ pub fn layer(masks: u64, budget: u64, pieces: &[[u64; 5]]) -> Layer {
 }
 
 /// Masks, conflicts, stitches, cost, steps and whether it is best.
-fn outcome(layer: &Layer) -> (Vec<u64>, [u64; 4], bool) {
+pub fn outcome(layer: &Layer) -> (Vec<u64>, [u64; 4], bool) {
     let run = run(layer, Mutation::None);
     let score = run.score;
     let numbers = [score.conflicts, score.stitches, score.cost, run.steps];
     (run.masks, numbers, run.best)
 }
 
-const ROW: [[u64; 5]; 3] = [[0, 0, 0, 20, 20], [1, 40, 0, 60, 20], [2, 80, 0, 100, 20]];
+pub const ROW: [[u64; 5]; 3] = [[0, 0, 0, 20, 20], [1, 40, 0, 60, 20], [2, 80, 0, 100, 20]];
 
 pub const WIRE: [[u64; 5]; 4] = [
     [0, 100, 0, 200, 20],
@@ -191,13 +192,13 @@ fn rivals_keep_ties() {
     assert_eq!(least_cost(&layer), 10);
 }
 
-fn refused(text: &[u8]) -> Option<(u64, u64)> {
+pub fn refused(text: &[u8]) -> Option<(u64, u64)> {
     let refusal = answer(text, 4096, Mutation::None).err()?;
     Some((refusal.number, refusal.place))
 }
 
 /// The row's text with one part replaced.
-fn changed(from: &str, to: &str) -> Vec<u8> {
+pub fn changed(from: &str, to: &str) -> Vec<u8> {
     let text = String::from_utf8(layer(2, 100, &ROW).text()).expect("a layer text is ASCII");
     assert!(text.contains(from));
     text.replacen(from, to, 1).into_bytes()

@@ -3,7 +3,9 @@
 use std::collections::BTreeMap;
 
 use super::edges::Edges;
+use super::fixed::of_units;
 use super::mutation::Mutation;
+use crate::layer::Layer;
 
 /// For each piece the number of its unit, its lowest piece: that number goes from piece to piece along
 /// the ties until it has come everywhere.
@@ -45,11 +47,13 @@ pub struct Graph {
     pub units: Vec<usize>,
     pub conflicts: Vec<Vec<Near>>,
     pub stitches: Vec<Vec<Near>>,
+    /// The mask that each unit must have, where it is fixed.
+    pub fixed: Vec<Option<u64>>,
 }
 
 impl Graph {
     /// The graph of the units that `units` names for the pieces.
-    pub fn of(edges: &Edges, units: &[usize], wrong: Mutation) -> Graph {
+    pub fn of(layer: &Layer, edges: &Edges, units: &[usize], wrong: Mutation) -> Graph {
         let mut numbers = units.to_vec();
         numbers.sort();
         numbers.dedup();
@@ -57,6 +61,7 @@ impl Graph {
             units: numbers,
             conflicts: between(&edges.conflicts, units, wrong),
             stitches: between(&edges.stitches, units, wrong),
+            fixed: of_units(&layer.pieces, units, wrong),
         }
     }
 

@@ -1,54 +1,42 @@
 //! The work of the gate, in rounds. A round depends on nothing but the seed and its number.
 
+use std::ops::Range;
+
 use super::check::Checker;
 use super::tally::Family;
 use crate::check::Finding;
 use crate::generate::{
-    any_masks, at_limits, damaged, keeping_ties, plain_masks, split_units, stray_masks, tied_layer,
+    any_masks, at_limits, damaged, fixed_at_limits, keeping_ties, knot, plain_masks, split_units,
+    stray_masks, tied_layer, PLAIN_LISTS,
 };
-use crate::layer::{Layer, Piece, Settings};
+use crate::layer::Layer;
 use crate::random::Random;
 use crate::reference::{self, mask_lines, Mutation, UNSET};
 
-/// Every list over a few numbers for a small layer.
+/// Every list over a few numbers for a small layer, and over fewer where some of its pieces are fixed.
 pub fn every_list(checker: &mut Checker) -> Result<(), Finding> {
-    let layer = knot().text();
-    for masks in lists_of(5) {
-        let masks = mask_lines(&masks).into_bytes();
-        checker.texts(Family::Every, layer.clone(), masks)?;
+    let free = knot();
+    let mut fixed = free.clone();
+    fixed.pieces[2].fixed = Some(1);
+    fixed.pieces[4].fixed = Some(0);
+    let numbers: [(Layer, &[u64]); 2] = [(free, &[0, 1, 2, 254, UNSET]), (fixed, &[0, 1, UNSET])];
+    for (layer, numbers) in numbers {
+        for masks in lists_of(5, numbers) {
+            let masks = mask_lines(&masks).into_bytes();
+            checker.texts(Family::Every, layer.text(), masks)?;
+        }
     }
     Ok(())
 }
 
-/// A unit of pieces 0, 3 and 2, the ties in this order. Piece 1 is in conflict with all others, and piece
-/// 4 has stitch edges to pieces 0 and 3.
-fn knot() -> Layer {
-    let piece = |[shape, x1, y1]: [u64; 3]| Piece {
-        shape,
-        x1,
-        y1,
-        x2: x1 + 20,
-        y2: y1 + 20,
-    };
-    let corners = [[0, 0, 0], [1, 60, 60], [0, 40, 22], [0, 20, 11], [0, 0, 20]];
-    Layer {
-        settings: Settings {
-            masks: 2,
-            spacing: 80,
-            margin: 10,
-            weight: 7,
-            budget: 0,
-        },
-        pieces: corners.map(piece).to_vec(),
-    }
-}
-
-/// Every list of so many numbers: both masks of a layer with two, not set, and two that are refused.
-fn lists_of(pieces: usize) -> Vec<Vec<u64>> {
+/// Every list of so many of the numbers.
+fn lists_of(pieces: usize, numbers: &[u64]) -> Vec<Vec<u64>> {
     let mut lists = vec![Vec::new()];
     for _ in 0..pieces {
-        let longer =
-            |list: &Vec<u64>| [0, 1, 2, 254, UNSET].map(|mask| [&list[..], &[mask]].concat());
+        let longer = |list: &Vec<u64>| -> Vec<Vec<u64>> {
+            let each = numbers.iter();
+            each.map(|&mask| [&list[..], &[mask]].concat()).collect()
+        };
         lists = lists.iter().flat_map(longer).collect();
     }
     lists
@@ -57,20 +45,26 @@ fn lists_of(pieces: usize) -> Vec<Vec<u64>> {
 /// The ends of every range, with nothing random in the masks.
 pub fn limits(checker: &mut Checker) -> Result<(), Finding> {
     for layer in at_limits() {
-        plain(checker, &layer)?;
+        plain(checker, &layer, 0..PLAIN_LISTS)?;
+    }
+    for layer in fixed_at_limits() {
+        plain(checker, &layer, FIXED_LISTS)?;
     }
     Ok(())
 }
 
+/// The plain lists for each of the many layers with fixed lines: none set, and masks in turn.
+const FIXED_LISTS: Range<usize> = 1..3;
+
 /// Plain lists for a layer. A text that is refused gets those of four pieces.
-fn plain(checker: &mut Checker, layer: &[u8]) -> Result<(), Finding> {
+fn plain(checker: &mut Checker, layer: &[u8], lists: Range<usize>) -> Result<(), Finding> {
     let (pieces, limit) = match reference::read(layer, Mutation::None) {
         Ok(layer) => (layer.pieces.len(), layer.settings.masks),
         Err(_) => (4, 2),
     };
-    for masks in plain_masks(pieces, limit) {
+    for masks in &plain_masks(pieces, limit)[lists] {
         let layer = layer.to_vec();
-        checker.texts(Family::Limits, layer, masks)?;
+        checker.texts(Family::Limits, layer, masks.clone())?;
     }
     Ok(())
 }
@@ -181,7 +175,7 @@ mod tests {
 
     #[test]
     fn every_list_is_there_once() {
-        let mut lists = lists_of(3);
+        let mut lists = lists_of(3, &[0, 1, 2, 254, UNSET]);
         lists.sort();
         lists.dedup();
         assert_eq!(lists.len(), 5 * 5 * 5);

@@ -17,7 +17,7 @@ pub enum Family {
 const FAMILIES: [&str; 5] = ["every list", "limits", "lists", "walks", "damaged"];
 
 /// The refusals that scoring of two texts can meet.
-const REFUSALS: [usize; 8] = [2, 3, 4, 5, 6, 7, 8, 12];
+const REFUSALS: [usize; 10] = [2, 3, 4, 5, 6, 7, 8, 12, 13, 14];
 
 /// The numbers of masks that a layer can have.
 const MASKS: [usize; 7] = [2, 3, 4, 5, 6, 7, 8];
@@ -29,7 +29,7 @@ const MOST_PIECES: usize = 512;
 pub struct Tally {
     families: [u64; FAMILIES.len()],
     /// Refusals by number.
-    refused: [u64; 13],
+    refused: [u64; 15],
     /// What the masks on valid layers had.
     kinds: [u64; SCORE_KINDS.len()],
     /// Half-done scores by the layer's number of masks.

@@ -2,7 +2,7 @@
 use borrow.Author.Needs.{needs}
 use native.Mathlib.Omega.{arith}
 use Rattle.rules.proofs.Ranges.{settings-facts}
-use Rattle.decomposer.proofs.StageLaws.{core-places, may-return, may-be-joined, all-decomposed}
+use Rattle.decomposer.proofs.StageLaws.{core-places, core-fixed, may-return, may-be-joined, all-decomposed}
 use Rattle.decomposer.proofs.stages.decompose_units.Statement.{statement}
 use Rattle.decomposer.proofs.stages.decompose_units.Tie as tie
 
@@ -30,7 +30,7 @@ merge-words-requires-2 : tie.Need-merge-words-requires-2
 merge-words-requires-2 c κs = let words = c .before .before .before .before .pre .1 .0 in (words .few, (words .small, words .stitches))
 
 peel-requires : tie.Need-peel-requires
-peel-requires c κs = tt
+peel-requires c κs = c .before .before .before .before .before .before .before .before .before .before .before .pre .1 .1 .1 .whole
 
 clear-requires : tie.Need-clear-requires
 clear-requires c κs = tt
@@ -40,7 +40,7 @@ search-requires c κs =
     let start = begun c in
     let near = merged c .merge-words .ensures in
     let stitched = merged2 c .merge-words2 .ensures in
-    (start .pre .0, (start .pre .1 .0, (near, (stitched, core-places _ (start .pre .0) near stitched (taken c .peel .ensures) (start .args .masks .now) (start .pre .1 .1) (cleared c .clear .ensures)))))
+    (start .pre .0, (start .pre .1 .0, (near, (stitched, (core-places _ (start .pre .0) near stitched (taken c .peel .ensures) (start .args .masks .now) (start .pre .1 .1 .0) (start .pre .1 .1 .1) (cleared c .clear .ensures), core-fixed _ (start .pre .0) near stitched (taken c .peel .ensures) (start .args .masks .now) (start .pre .1 .1 .0) (start .pre .1 .1 .1) (cleared c .clear .ensures))))))
 
 put-back-requires : tie.Need-put-back-requires
 put-back-requires c κs =
@@ -51,8 +51,8 @@ put-back-requires c κs =
     let stitched = merged2 s .merge-words2 .ensures in (
       omega (arith, settings-facts _ (start .pre .0) .masks .high),
       (
-        may-return _ (start .pre .0) near stitched (taken s .peel .ensures) (start .args .masks .now) (start .pre .1 .1) (cleared s .clear .ensures) (found .search .ensures),
-        may-be-joined _ (start .pre .0) near stitched (taken s .peel .ensures) (start .args .masks .now) (start .pre .1 .1) (cleared s .clear .ensures) (found .search .ensures),
+        may-return _ (start .pre .0) near stitched (taken s .peel .ensures) (start .args .masks .now) (start .pre .1 .1 .0) (start .pre .1 .1 .1) (cleared s .clear .ensures) (found .search .ensures),
+        may-be-joined _ (start .pre .0) near stitched (taken s .peel .ensures) (start .args .masks .now) (start .pre .1 .1 .0) (start .pre .1 .1 .1) (cleared s .clear .ensures) (found .search .ensures),
       ),
     )
 
@@ -65,7 +65,7 @@ returns c =
     let found = back .before .before .before .before .before .before .before .before in
     let s = found .before in
     let start = begun s in
-    all-decomposed _ (start .pre .0) (merged s .merge-words .ensures) (merged2 s .merge-words2 .ensures) (taken s .peel .ensures) (start .args .masks .now) (start .pre .1 .1) (cleared s .clear .ensures)
+    all-decomposed _ (start .pre .0) (merged s .merge-words .ensures) (merged2 s .merge-words2 .ensures) (taken s .peel .ensures) (start .args .masks .now) (start .pre .1 .1 .0) (start .pre .1 .1 .1) (cleared s .clear .ensures)
     (found .search .ensures) (back .put-back .ensures)
 
 pub decompose-units-spec : {M : Type 1} → statement M

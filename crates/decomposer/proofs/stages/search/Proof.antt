@@ -26,16 +26,16 @@ numbers-of-requires c κs = search needs
 search-core-requires : tie.Need-search-core-requires
 search-core-requires c κs =
     let start = c .before .before .before .before in
-    (start .pre .1 .0, (start .pre .1 .1 .0, (start .pre .1 .1 .1 .0, core-given _ (c .before .before .numbers-of .ensures) (start .pre .0) (start .pre .1 .1 .1 .1))))
+    (start .pre .1 .0, (start .pre .1 .1 .0, (start .pre .1 .1 .1 .0, core-given _ (c .before .before .numbers-of .ensures) (start .pre .0) (start .pre .1 .1 .1 .1 .0) (start .pre .1 .1 .1 .1 .1))))
 
-cast-t16 : tie.Need-cast-t16
-cast-t16 c = omega (arith, left-within (c .before .before), budget-within (c .before .before))
+cast-t17 : tie.Need-cast-t17
+cast-t17 c = omega (arith, left-within (c .before .before), budget-within (c .before .before))
 
-sub-t17 : tie.Need-sub-t17
-sub-t17 c = left-within (c .before .before .before)
+sub-t18 : tie.Need-sub-t18
+sub-t18 c = left-within (c .before .before .before)
 
-array-read-t20 : tie.Need-array-read-t20
-array-read-t20 c = search needs
+array-read-t21 : tie.Need-array-read-t21
+array-read-t21 c = search needs
 
 same-length : tie.Need-same-length
 same-length c = search needs
@@ -46,4 +46,4 @@ returns c =
     core-searched _ (ended .before .before .before .numbers-of .ensures) (ended .search-core .ensures) refl refl
 
 pub search-spec : {M : Type 1} → statement M
-search-spec = tie.close (tie.spec numbers-of-requires search-core-requires cast-t16 sub-t17 array-read-t20 same-length returns)
+search-spec = tie.close (tie.spec numbers-of-requires search-core-requires cast-t17 sub-t18 array-read-t21 same-length returns)

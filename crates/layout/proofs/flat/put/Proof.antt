@@ -1,4 +1,4 @@
--- `put`: five stores. Assumes nothing.
+-- `put`: six stores. Assumes nothing.
 use native.Mathlib.Omega.{arith}
 use lib.ListN.{length-set}
 use Rattle.layout.proofs.StoredPieces.{piece-stored}
@@ -51,10 +51,13 @@ mul-numbers-5 c = search needs
 slice-write-numbers-5 : tie.Need-slice-write-numbers-5
 slice-write-numbers-5 c = simp length-set (search needs)
 
+slice-write-masks : tie.Need-slice-write-masks
+slice-write-masks c = search needs
+
 returns : tie.Need-returns
 returns c =
-    let at = c .before .args in
-    piece-stored (at .flat .now) (at .i) (at .piece) (omega arith)
+    let at = c .before .before .args in
+    piece-stored (at .flat .now) (at .i) (at .piece) (at .fixed .now) (omega arith) (omega arith)
 
 pub put-spec : {M : Type 1} → statement M
 put-spec =
@@ -75,4 +78,5 @@ put-spec =
     add-numbers-4
     mul-numbers-5
     slice-write-numbers-5
+    slice-write-masks
     returns)

@@ -1,4 +1,4 @@
--- `write_run_of`: the numbers are those of the records, and there is a mask for each. Assumes nothing.
+-- `write_run_of`: the numbers and the fixed masks are those of the records, and there is a mask for each. Assumes nothing.
 use borrow.Author.Needs.{needs}
 use mathlib.Core.List.{List}
 use mathlib.Core.Path.{sym, subst, subst⁻¹}
@@ -18,13 +18,13 @@ array-borrow-prefix-masks : tie.Need-array-borrow-prefix-masks
 array-borrow-prefix-masks c = search needs
 
 slice-aggregate-write-run : tie.Need-slice-aggregate-write-run
-slice-aggregate-write-run c = sym (length-take-le _ _ (c .before .before .before .before .before .pre .0))
+slice-aggregate-write-run c = sym (length-take-le _ _ (c .before .before .before .before .before .before .before .pre .0))
 
 write-run-requires : tie.Need-write-run-requires
 write-run-requires c κs =
-    let given = c .before .before .before in
-    let start = given .before .before .before in
-    (subst⁻¹ (Valid (start .args .settings)) (with-masks _ _ _ (start .pre .0) (given .flatten .ensures .stored)) (start .pre .1 .0), start .pre .1 .1)
+    let given = c .before .before .before .before in
+    let start = given .before .before .before .before in
+    (subst⁻¹ (Valid (start .args .settings)) (with-masks _ _ _ _ (start .pre .0) (given .flatten .ensures .stored)) (start .pre .1 .0), start .pre .1 .1)
 
 same-length : tie.Need-same-length
 same-length c = search needs
@@ -32,9 +32,9 @@ same-length c = search needs
 returns : tie.Need-returns
 returns c =
     let wrote = c .before .before .before in
-    let given = wrote .before .before .before .before in
-    let start = given .before .before .before in
-    subst (λ (ps : List Piece). Wrote (run (start .args .settings) ps) (start .args .buffer .now) (wrote .write-run .result) (wrote .write-run .last .1 .1 .1 .0)) (with-masks _ _ _ (start .pre .0) (given .flatten .ensures .stored))
+    let given = wrote .before .before .before .before .before in
+    let start = given .before .before .before .before in
+    subst (λ (ps : List Piece). Wrote (run (start .args .settings) ps) (start .args .buffer .now) (wrote .write-run .result) (wrote .write-run .last .1 .1 .1 .1 .0)) (with-masks _ _ _ _ (start .pre .0) (given .flatten .ensures .stored))
     (wrote .write-run .ensures)
 
 pub write-run-of-spec : {M : Type 1} → statement M

@@ -17,7 +17,7 @@ same-length c = search needs
 returns : tie.Need-returns
 returns c =
     let ran = c .before .before in
-    let promised = decomposed _ (ran .before .before .before .gather .ensures) _ (ran .decompose-flat .ensures) in
+    let promised = decomposed _ (ran .before .before .before .before .gather .ensures) _ (ran .decompose-flat .ensures) in
     (promised .0, (promised .1 .0, promised .1 .1))
 
 pub decompose-spec : {M : Type 1} → statement M

@@ -12,7 +12,7 @@ score-flat-requires : tie.Need-score-flat-requires
 score-flat-requires c κs = search needs
 
 returns : tie.Need-returns
-returns c = scored _ (c .before .before .gather .ensures) _ (c .score-flat .ensures)
+returns c = scored _ (c .before .before .before .gather .ensures) _ (c .score-flat .ensures)
 
 pub score-spec : {M : Type 1} → statement M
 score-spec = tie.close (tie.spec gather-requires score-flat-requires returns)

@@ -17,7 +17,7 @@ same-length c = search needs
 returns : tie.Need-returns
 returns c =
     let wrote = c .before .before in
-    let promised = written _ (wrote .before .before .before .gather .ensures) _ (wrote .write-layer .ensures) in
+    let promised = written _ (wrote .before .before .before .before .gather .ensures) _ (wrote .write-layer .ensures) in
     (promised .0, promised .1)
 
 pub write-layer-spec : {M : Type 1} → statement M

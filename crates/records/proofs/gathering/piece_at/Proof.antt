@@ -1,5 +1,5 @@
--- `piece_at`: a walk of its code. The place of `pieces[i]` is 20 i bytes past the pointer, and the record is read there:
---     _3 = i * 20; _4 = the pointer, moved by _3; _5 = *_4; _0 = _5
+-- `piece_at`: a walk of its code. The place of `pieces[i]` is 24 i bytes past the pointer, and the record is read there:
+--     _3 = i * 24; _4 = the pointer, moved by _3; _5 = *_4; _0 = _5
 -- A shared slice is Copy, so what it owns is had twice: one copy is kept for the exit, and the other is looked into. Each local has two
 -- entries in the list of what is owned, the last local first, so that _k stands at 2 (5 - k), and _0 at 10. Assumes nothing.
 use mathlib.Core.Path.{refl, sym}
@@ -55,7 +55,7 @@ abbrev vals : Piece → List Val
 vals = struct.vals the-type the-laws
 
 -- the product that the code computes fits: the elements take at most isize::MAX bytes
-scaled : (n i : ℕ) → n * 20 < 2 ^ 63 → i < n → i * 20 < 2 ^ 64
+scaled : (n i : ℕ) → n * 24 < 2 ^ 63 → i < n → i * 24 < 2 ^ 64
 scaled n i room l = omega arith
 
 module _ {M : Type 1} (𝓤 : URA M) (H : Heap 𝓤) (A : Atoms 𝓤) (W : Given 𝓤 H A) (mem : Memory → SProp 𝓤) (run : Routine → Fun 𝓤) where
@@ -98,12 +98,12 @@ module _ {M : Type 1} (𝓤 : URA M) (H : Heap 𝓤) (A : Atoms 𝓤) (W : Given
         enter ! C Λ code.function (sliceVal (b, o) (length ys) ∷ vint w64 i ∷ []) _ $
         alloc1 ! (λ l₀. alloc1 ! (λ l₁. alloc1 ! (λ l₂. alloc1 ! (λ l₃. alloc1 ! (λ l₄. alloc1 ! (λ l₅. alloc0 ! $ params1 ! $
         pass1 ! (init ! 8 refl (tt, (tt, (record { fits = room .0 }, tt)))) $ pass1 ! (init ! 6 refl (tt, record { fits = fits })) $ pass0 ! $
-        -- _3 = i * 20; _4 = the pointer, moved by _3
+        -- _3 = i * 24; _4 = the pointer, moved by _3
         assigns ! (bin ! (load ! (from ! (stop !)) (look ! 6 refl)) (lit ! tt) (record { fits = scaled (length ys) i (room .1) l }))
         (from ! (stop !)) (init ! 4 refl (tt, record { fits = scaled (length ys) i (room .1) l })) $
         assigns ! (bin ! (load ! (from ! (fld ! refl (stop !))) (look-in ! 8 (sub ! 0 refl (whole !)))) (load ! (from ! (stop !)) (look ! 4 refl)) tt)
         (from ! (stop !)) (init ! 2 refl (tt, tt)) $
-        rewrite ! 2 (λ (p : ℕ). ‵ (fat fullShare tyPtr l₄ 0 (vptr b p))) (sym (place-is 20 o i)) refl $
+        rewrite ! 2 (λ (p : ℕ). ‵ (fat fullShare tyPtr l₄ 0 (vptr b p))) (sym (place-is 24 o i)) refl $
         -- one copy of what the slice owns is kept for the exit, and the other is looked into
         move ! (13 ∷ []) $ fsplit ! $ use1 W (‵ Own ⊛ ‵ Own) (shr-slice-copy 𝓤 H A W (named 0) κ the-row .twice s (at .0)) $ split ! $
         fsplit ! $ drop ! $ fsplit ! $ drop ! $ move ! (15 ∷ []) $ split ! $ move ! (2 ∷ 0 ∷ []) $

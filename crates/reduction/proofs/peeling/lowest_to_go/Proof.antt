@@ -11,22 +11,23 @@ use Rattle.rules.specs.Basics.{foundOr}
 use Rattle.rules.specs.Peeling.{mayGo}
 use Rattle.adjacency.specs.Adjacency.{wordGraph}
 use Rattle.adjacency.specs.Members.{membersOf}
+use Rattle.adjacency.specs.UnitGraph.{fixedAt}
 use Rattle.reduction.proofs.MemberTests.{found-member, found-no-member}
 use Rattle.reduction.proofs.peeling.lowest_to_go.Statement.{statement}
 use Rattle.reduction.proofs.peeling.lowest_to_go.Tie as tie
 
 abbrev Inv-loop : tie.InvT-loop
-Inv-loop masks conflicts stitches there i₀ i =
-    (i ≤ 512) × ((k : ℕ) → k < i → (member there k && mayGo masks (wordGraph conflicts stitches) (membersOf there) k) ≡ false)
+Inv-loop masks conflicts stitches fixed there i₀ i =
+    (i ≤ 512) × ((k : ℕ) → k < i → (member there k && mayGo masks (wordGraph conflicts stitches) (fixedAt fixed) (membersOf there) k) ≡ false)
 
 abbrev μ-loop : tie.MeasureT-loop
-μ-loop masks conflicts stitches there i₀ i = 512 - i
+μ-loop masks conflicts stitches fixed there i₀ i = 512 - i
 
 -- whether a vertex may go at a turn's start
 abbrev goes : tie.At-loop Inv-loop μ-loop → ℕ → Bool
 goes at =
     let args = at .before .args in
-    mayGo (args .masks) (wordGraph (args .conflicts .now) (args .stitches .now)) (membersOf (args .there .now))
+    mayGo (args .masks) (wordGraph (args .conflicts .now) (args .stitches .now)) (fixedAt (args .fixed .now)) (membersOf (args .there .now))
 
 loop-holds : tie.Need-loop-holds Inv-loop μ-loop
 loop-holds c = (omega arith, λ k h. absurd (omega arith))

@@ -27,15 +27,15 @@ layer : (c : tie.After-enum-told) → let read = c .before .before in WasRead (r
 layer c = handed-read (readLayer _) _ (c .before .before .read-layer .ensures) (c .enum-told .given .1)
 
 flatten-requires : tie.Need-flatten-requires
-flatten-requires c κs = read-few (readLayer _) (read-valid _) (layer (c .before .before))
+flatten-requires c κs = (read-few (readLayer _) (read-valid _) (layer (c .before .before .before)), search needs)
 
 score-flat-requires : tie.Need-score-flat-requires
 score-flat-requires c κs = search needs
 
 returns-2 : tie.Need-returns-2
 returns-2 c =
-    let flattened = c .before .before in
-    score-read _ _ (layer (flattened .before .before .before)) _ (flattened .flatten .ensures .stored) (c .score-flat .result) (c .score-flat .ensures)
+    let flattened = c .before .before .before in
+    score-read _ _ (layer (flattened .before .before .before .before)) _ (flattened .flatten .ensures .stored) (c .score-flat .result) (c .score-flat .ensures)
 
 pub score-layer-spec : {M : Type 1} → statement M
 score-layer-spec =

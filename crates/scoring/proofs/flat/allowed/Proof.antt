@@ -2,7 +2,7 @@
 use mathlib.Core.Path.{sym, _∙_}
 use native.Mathlib.Omega.{arith}
 use borrow.Author.Tests.{lt-ltb}
-use Rattle.scoring.proofs.ScoreLaws.{allowed-below, allowed-other}
+use Rattle.scoring.proofs.QuestionLaws.{allowed-below, allowed-other}
 use Rattle.scoring.proofs.flat.allowed.Statement.{statement}
 use Rattle.scoring.proofs.flat.allowed.Tie as tie
 

@@ -7,8 +7,8 @@ use lib.ListN.{length}
 use Rattle.rules.specs.Questions.{done, askEach}
 use Rattle.rules.proofs.Outcomes.{each-next, each-refused}
 use Rattle.rules.proofs.Tests.{passed, failed}
-use Rattle.scoring.specs.ScoreWords.{maskQuestion}
-use Rattle.scoring.proofs.ScoreLaws.{mask-asked}
+use Rattle.scoring.specs.MaskQuestions.{maskQuestion}
+use Rattle.scoring.proofs.QuestionLaws.{mask-asked}
 use Rattle.scoring.proofs.flat.judge_masks.Statement.{statement}
 use Rattle.scoring.proofs.flat.judge_masks.Tie as tie
 

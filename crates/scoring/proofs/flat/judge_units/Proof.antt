@@ -1,117 +1,21 @@
--- `judge_units`. The invariant: all pieces before i pass, and what is noted of a unit is the mask of its lowest set piece among them. Assumes nothing.
-use mathlib.Core.List.{List}
-use mathlib.Core.Path.{_≡_, refl, sym, ap, _∙_}
-use Prim.Native.Nat.{ℕ, _-_, _≤_, _<_}
+-- `judge_units`: the first piece that does not fit answers the question of each. Assumes nothing.
+use mathlib.Core.Path.{sym}
 use native.Mathlib.Omega.{arith}
-use lib.ListN.{length}
-use Rattle.rules.specs.Score.{maskOf}
-use Rattle.rules.specs.Questions.{done, askEach}
-use Rattle.rules.proofs.Outcomes.{each-next, each-refused}
-use Rattle.rules.proofs.Tests.{passed, failed}
-use Rattle.adjacency.specs.UnitGraph.{unitAt}
-use Rattle.scoring.specs.ScoreWords.{unitQuestion}
-use Rattle.scoring.proofs.UnitMaskLaws.{Noted, noted-start, fits-question, noted-next, after-length}
+use Rattle.units.proofs.SplitLaws.{all-fit, one-splits}
 use Rattle.scoring.proofs.flat.judge_units.Statement.{statement}
 use Rattle.scoring.proofs.flat.judge_units.Tie as tie
 
--- what holds before piece i
-record Inv (units masks noted : List ℕ) (i : ℕ) : Type 0 where
-  inside : i ≤ length masks
-  passes : askEach (unitQuestion (unitAt units) (length masks) masks) i ≡ done tt
-  size : length noted ≡ 512
-  right : (u : ℕ) → u < 512 → Noted (unitAt units) masks i u (maskOf noted u)
+note-masks-requires : tie.Need-note-masks-requires
+note-masks-requires c κs = c .before .before .pre
 
-abbrev Inv-loop : tie.InvT-loop
-Inv-loop units masks noted₀ i₀ noted i = Inv units masks noted i
+cast-t : tie.Need-cast-t9
+cast-t c = omega arith
 
-abbrev μ-loop : tie.MeasureT-loop
-μ-loop units masks noted₀ i₀ noted i = length masks - i
+returns : tie.Need-returns
+returns c = sym (one-splits (c .before .note-masks .ensures) 12 (c .if1 .taken))
 
-loop-holds : tie.Need-loop-holds Inv-loop μ-loop
-unfolding askEach
-loop-holds c =
-    let a = c .before .args in
-    record { inside = omega arith; passes = refl; size = refl; right = noted-start (unitAt (a .units .now)) (a .masks .now) }
-
-mul-fits-noted : tie.Need-mul-fits-noted Inv-loop μ-loop
-mul-fits-noted c = omega arith
-
-element-copy-out-fits-noted : tie.Need-element-copy-out-fits-noted Inv-loop μ-loop
-element-copy-out-fits-noted c = omega arith
-
--- a piece's unit is one of the pieces
-small : (c : tie.In-loop Inv-loop μ-loop) →
-    let start = c .before .before .before in
-    unitAt (start .args .units .now) (c .before .loop .i) < 512
-small c =
-    let start = c .before .before .before in
-    omega (arith, start .pre .1 (c .before .loop .i) (c .loop-test .taken), start .pre .0)
-
-cast-fits-noted : tie.Need-cast-fits-noted Inv-loop μ-loop
-cast-fits-noted c = omega (arith, small (c .before .before))
-
-shared-slice-read-fits-noted : tie.Need-shared-slice-read-fits-noted Inv-loop μ-loop
-shared-slice-read-fits-noted c = omega arith
-
-fits-noted-requires : tie.Need-fits-noted-requires Inv-loop μ-loop
-fits-noted-requires c κs = small (c .before .before .before)
-
-cast-t16 : tie.Need-cast-t16 Inv-loop μ-loop
-cast-t16 c = omega arith
-
-returns : tie.Need-returns Inv-loop μ-loop
-returns c =
-    let asked = c .before in
-    let turn = asked .before .before .before .before in
-    let at = turn .before in
-    let a = at .before .before .args in
-    let same = fits-question (unitAt (a .units .now)) (a .masks .now) (at .loop .i) (turn .loop-test .taken) (at .loop .noted) (at .loop .inv .right _ (small turn)) in
-    sym (each-refused _ _ {i = at .loop .i} (turn .loop-test .taken) (at .loop .inv .passes) (rw (← same, failed _ _ (asked .fits-noted .ensures .0) (c .if1 .taken))))
-
-add-i : tie.Need-add-i Inv-loop μ-loop
-add-i c = omega arith
-
-loop-less : tie.Need-loop-less Inv-loop μ-loop
-loop-less c = omega arith
-
-loop-again : tie.Need-loop-again Inv-loop μ-loop
-loop-again c =
-    let asked = c .before in
-    let turn = asked .before .before .before .before in
-    let at = turn .before in
-    let a = at .before .before .args in
-    let units = unitAt (a .units .now) in
-    let masks = a .masks .now in
-    let same = fits-question units masks (at .loop .i) (turn .loop-test .taken) (at .loop .noted) (at .loop .inv .right _ (small turn)) in
-    let next = noted-next units masks (at .loop .i) (turn .loop-test .taken) (at .loop .noted) (omega (arith, small turn, at .loop .inv .size)) (at .loop .inv .right) (small turn) in
-    record {
-      inside = omega arith;
-      passes = each-next _ _ (at .loop .inv .passes) (rw (← same, passed _ _ (asked .fits-noted .ensures .0) (c .if1 .left)));
-      size = ap length (asked .fits-noted .ensures .1) ∙ after-length (at .loop .noted) (units (at .loop .i)) (maskOf masks (at .loop .i)) ∙ at .loop .inv .size;
-      right = λ u l. rw (asked .fits-noted .ensures .1) (next u l);
-    }
-
-returns-2 : tie.Need-returns-2 Inv-loop μ-loop
-returns-2 c =
-    let at = c .before in
-    let e : at .loop .i ≡ length (at .before .before .args .masks .now) = omega (arith, at .loop .inv .inside) in
-    sym (rw e at (at .loop .inv .passes))
+returns-2 : tie.Need-returns-2
+returns-2 c = sym (all-fit (c .before .note-masks .ensures) 12 (c .if1 .left))
 
 pub judge-units-spec : {M : Type 1} → statement M
-judge-units-spec =
-    tie.close
-    (tie.spec
-    Inv-loop
-    μ-loop
-    loop-holds
-    mul-fits-noted
-    element-copy-out-fits-noted
-    cast-fits-noted
-    shared-slice-read-fits-noted
-    fits-noted-requires
-    cast-t16
-    returns
-    add-i
-    loop-less
-    loop-again
-    returns-2)
+judge-units-spec = tie.close (tie.spec note-masks-requires cast-t returns returns-2)

@@ -3,15 +3,19 @@
 use native.Mathlib.Omega.{arith}
 use mathlib.Core.List.{List}
 use mathlib.Core.Logic.{_⊎_, inl, inr, ⊎-elim}
-use mathlib.Core.Path.{_≡_, refl, subst, subst⁻¹}
+use mathlib.Core.Path.{_≡_, refl, sym, subst, subst⁻¹, _∙_}
 use Prim.Native.Nat.{ℕ, _+_, _-_, _*_, _≤_, _<_}
 use denote.Ref.{now}
-use lib.ListN.{getD, set}
+use lib.ListN.{getD, take, set}
+use lib.Seq.{getD-drop}
 use borrow.Author.Needs.{needs}
-use Rattle.search.specs.Branch.{sizeIn, masksIn, triedIn, Ready, RowOf, Placed, Masked}
-use Rattle.search.specs.Weights.{Weights}
+use Rattle.rules.specs.Basics.{upFrom}
+use Rattle.rules.specs.Search.{candidatesIn}
+use Rattle.search.specs.Branch.{sizeIn, masksIn, fixedIn, triedIn, Ready, RowOf, Placed, Masked}
+use Rattle.search.specs.Weights.{fixedBehind, Weights}
 use Rattle.search.proofs.Tables.{weights-own}
-use Rattle.search.proofs.Moves.{row-of, ready-masks, ready-next, added-small, masked-none, masked-stop, masked-skip, kept-below, masked-enter, Went, went-as, MasksLeft, masks-all, masks-next, placed-masks, placed-last}
+use Rattle.search.proofs.FixedPlaces.{own-low, tried-at}
+use Rattle.search.proofs.Moves.{row-of, ready-next, added-small, masked-none, masked-stop, masked-skip, kept-below, masked-enter, Went, went-as, MasksLeft, masks-all, masks-next, placed-masks, placed-last}
 use borrow.Fn.Kinds.{In}
 use borrow.Fn.PlainCycle.{Measures, is, falls, and}
 use Rattle.search.proofs.branch.search_masks.Reads as search-masks
@@ -59,7 +63,7 @@ search-place-below t =
 
 abbrev Inv-loop : search-masks-lts.InvT-loop
 Inv-loop starts list table partial₀ incumbent₀ numbers₀ p cost used left row m more rest₀ mask₀ untried₀ partial incumbent numbers rest mask untried =
-    MasksLeft starts list row partial₀ incumbent₀ numbers₀ p cost used left m more partial incumbent numbers rest mask untried
+    MasksLeft starts list (fixedBehind table) row partial₀ incumbent₀ numbers₀ p cost used left m more partial incumbent numbers rest mask untried
 
 abbrev μ-loop : search-masks-lts.MeasureT-loop
 μ-loop starts list table partial₀ incumbent₀ numbers₀ p cost used left row m more rest₀ mask₀ untried₀ partial incumbent numbers rest mask untried = untried
@@ -122,7 +126,7 @@ module _ (t : ℕ) where
     tried = c .before .before .before
 
     went : let a = begun tried .args in let l = at tried .loop in
-        Went (a .starts .now) (a .list .now) (l .partial) (c .if2 .partial) (l .incumbent) (c .if2 .incumbent) (l .numbers) (c .if2 .numbers) (a .p) (a .cost) (l .rest) (c .if2 .rest) (l .mask) (l .untried)
+        Went (a .starts .now) (a .list .now) (fixedBehind (a .table .now)) (l .partial) (c .if2 .partial) (l .incumbent) (c .if2 .incumbent) (l .numbers) (c .if2 .numbers) (a .p) (a .cost) (l .rest) (c .if2 .rest) (l .mask) (l .untried)
     went =
         let a = begun tried .args in
         let l = at tried .loop in
@@ -134,18 +138,18 @@ module _ (t : ℕ) where
         let partial₁ = d .last .1 .1 .1 .0 in
         let incumbent₁ = d .last .1 .1 .1 .1 .0 in
         let numbers₁ = d .last .1 .1 .1 .1 .1 .0 in
-        let one : Placed (a .starts .now) (a .list .now) (set (l .partial) (a .p) (l .mask)) partial₁ (l .incumbent) incumbent₁ (l .numbers) numbers₁ (a .p + 1) (a .cost + adds tried) (l .rest - 1) (d .result)
-        = subst (λ (x : List ℕ). Placed (a .starts .now) (a .list .now) x partial₁ (l .incumbent) incumbent₁ (l .numbers) numbers₁ (a .p + 1) (a .cost + adds tried) (l .rest - 1) (d .result)) (w .2 .ensures) (d .ensures) in
+        let one : Placed (a .starts .now) (a .list .now) (fixedBehind (a .table .now)) (set (l .partial) (a .p) (l .mask)) partial₁ (l .incumbent) incumbent₁ (l .numbers) numbers₁ (a .p + 1) (a .cost + adds tried) (l .rest - 1) (d .result)
+        = subst (λ (x : List ℕ). Placed (a .starts .now) (a .list .now) (fixedBehind (a .table .now)) x partial₁ (l .incumbent) incumbent₁ (l .numbers) numbers₁ (a .p + 1) (a .cost + adds tried) (l .rest - 1) (d .result)) (w .2 .ensures) (d .ensures) in
         went-as (w .8) (w .9) (w .10) (w .11)
         record {
-          kept = kept-below (a .starts .now) (a .list .now) (l .partial) (l .incumbent) (l .numbers) (a .p) (a .cost) (a .used) (l .rest) (l .mask) (l .untried) ready (adds tried) (some tried) (afford tried) row (l .inv .place) one;
-          on = masked-enter (a .starts .now) (a .list .now) (l .partial) (l .incumbent) (l .numbers) (a .p) (a .cost) (a .used) (l .rest) (l .mask) (l .untried) ready (adds tried) (some tried) (afford tried) row (l .inv .place) one (w .0 .taken);
+          kept = kept-below (a .starts .now) (a .list .now) (fixedBehind (a .table .now)) (l .partial) (l .incumbent) (l .numbers) (a .p) (a .cost) (a .used) (l .rest) (l .mask) (l .untried) ready (adds tried) (some tried) (afford tried) row (l .inv .place) one;
+          on = masked-enter (a .starts .now) (a .list .now) (fixedBehind (a .table .now)) (l .partial) (l .incumbent) (l .numbers) (a .p) (a .cost) (a .used) (l .rest) (l .mask) (l .untried) ready (adds tried) (some tried) (afford tried) row (l .inv .place) one (w .0 .taken);
         })
         (λ w.
         went-as (w .1) (w .2) (w .3) (w .4)
         record {
           kept = record { before = refl; whole = ready .whole; numbered = ready .numbered; constants = λ i h. refl; fewer = omega arith };
-          on = masked-skip (a .starts .now) (a .list .now) (l .partial) (l .incumbent) (l .numbers) (a .p) (a .cost) (a .used) (l .rest) (l .mask) (l .untried) ready (adds tried) (some tried) (afford tried) row (w .0 .left);
+          on = masked-skip (a .starts .now) (a .list .now) (fixedBehind (a .table .now)) (l .partial) (l .incumbent) (l .numbers) (a .p) (a .cost) (a .used) (l .rest) (l .mask) (l .untried) ready (adds tried) (some tried) (afford tried) row (w .0 .left);
         })
         (c .if2 .came)
 
@@ -161,8 +165,8 @@ module _ (t : ℕ) where
       let l = c .before .before .before .before .loop in
       let a = c .before .before .before .before .before .args in
       l .inv .on
-      (subst⁻¹ (λ (ns : List ℕ). Masked (a .starts .now) (a .list .now) (l .partial) (l .partial) (l .incumbent) (l .incumbent) (l .numbers) ns (a .p) (a .cost) (l .rest) (l .mask) (l .untried) 0) (c .store .ensures)
-      (masked-stop (a .starts .now) (a .list .now) (l .partial) (l .incumbent) (l .numbers) (a .p) (a .cost) (a .used) (l .rest) (l .mask) (l .untried) (l .inv .ready) (omega (arith, spent .before .loop-test .taken)) (spent .if1 .taken)))
+      (subst⁻¹ (λ (ns : List ℕ). Masked (a .starts .now) (a .list .now) (fixedBehind (a .table .now)) (l .partial) (l .partial) (l .incumbent) (l .incumbent) (l .numbers) ns (a .p) (a .cost) (l .rest) (l .mask) (l .untried) 0) (c .store .ensures)
+      (masked-stop (a .starts .now) (a .list .now) (fixedBehind (a .table .now)) (l .partial) (l .incumbent) (l .numbers) (a .p) (a .cost) (a .used) (l .rest) (l .mask) (l .untried) (l .inv .ready) (omega (arith, spent .before .loop-test .taken)) (spent .if1 .taken)))
 
   search-masks-mul-total : search-masks-lts.Need-mul-total search-masks-told (search-masks-at t) search-masks.Post Inv-loop μ-loop
   search-masks-mul-total c = omega (arith, low c)
@@ -217,7 +221,7 @@ module _ (t : ℕ) where
       let next = ready-next ready (l .mask) (adds over) (join .if3 .next) (l .inv .place) (l .inv .adds .small (l .mask) (low over)) which (is-mask over) (afford over) in (
         omega (arith, s .pre .0, l .inv .place, l .inv .size),
         (
-          subst⁻¹ (λ (x : List ℕ). Ready (a .starts .now) (a .list .now) x (l .numbers) (a .p + 1) (a .cost + adds over) (join .if3 .next) (l .rest - 1)) (join .before .put .ensures) next,
+          subst⁻¹ (λ (x : List ℕ). Ready (a .starts .now) (a .list .now) (fixedBehind (a .table .now)) x (l .numbers) (a .p + 1) (a .cost + adds over) (join .if3 .next) (l .rest - 1)) (join .before .put .ensures) next,
           subst⁻¹ (Weights (a .table .now)) (l .inv .weight) (s .pre .1 .1 .1 .1),
         ),
       )
@@ -242,23 +246,34 @@ module _ (t : ℕ) where
       let l = c .before .loop in
       let a = c .before .before .args in
       l .inv .on
-      (masked-none (a .starts .now) (a .list .now) (l .partial) (l .incumbent) (l .numbers) (a .p) (a .cost) (a .used) (l .rest) (l .mask) (l .untried) (l .inv .ready) (omega (arith, c .loop-test .left)))
+      (masked-none (a .starts .now) (a .list .now) (fixedBehind (a .table .now)) (l .partial) (l .incumbent) (l .numbers) (a .p) (a .cost) (a .used) (l .rest) (l .mask) (l .untried) (l .inv .ready) (omega (arith, c .loop-test .left)))
 
   -- ---- A place
 
-  abbrev Joined : Type 0
-  Joined = search-place-lts.Joined2 search-place-told (search-place-at t) search-place.Post
+  -- the number that is read behind the weights
+  read : (table : List ℕ) (p : ℕ) → getD table (64 + p) 0 ≡ getD (fixedBehind table) p 0
+  read table p = sym (getD-drop 64 table p 0)
 
-  -- there is a place, and so many masks are tried at it
+  abbrev Joined : Type 0
+  Joined = search-place-lts.Joined3 search-place-told (search-place-at t) search-place.Post
+
+  -- there is a place, and these masks are tried at it
   module _ (c : Joined) where
     abbrev entered : search-place-lts.Else1 search-place-told (search-place-at t) search-place.Post
-    entered = c .before .before .before .before
+    entered = c .before .before .before .before .before .before
 
     abbrev given : search-place-lts.Start search-place-told (search-place-at t) search-place.Post
     given = entered .before .before
 
-    all-tried : c .if2 .more ≡ triedIn (given .args .numbers .now) (given .args .used)
-    all-tried = ⊎-elim (λ w. omega (arith, w .0 .taken, w .1)) (λ w. omega (arith, w .0 .left, w .1, given .pre .1 .0 .within)) (c .if2 .came)
+    all-tried : c .before .if2 .more ≡ triedIn (given .args .numbers .now) (given .args .used)
+    all-tried = ⊎-elim (λ w. omega (arith, w .0 .taken, w .1)) (λ w. omega (arith, w .0 .left, w .1, given .pre .1 .0 .within)) (c .before .if2 .came)
+
+    masks-tried : let a = given .args in
+        (c .if3 .first + c .if3 .more ≤ triedIn (a .numbers .now) (a .used))
+        × (upFrom (c .if3 .first) (c .if3 .more) ≡ candidatesIn (masksIn (a .numbers .now)) (fixedIn (fixedBehind (a .table .now)) (a .numbers .now)) (sizeIn (a .numbers .now)) (take (a .p) (a .partial .now)))
+    masks-tried =
+        tried-at (given .pre .1 .0) (entered .if1 .left) (read (given .args .table .now) (given .args .p)) (c .if3 .first) (c .if3 .more)
+        (⊎-elim (λ w. inl (w .0 .taken, w .1, w .2)) (λ w. inr (w .0 .left, w .1, w .2 ∙ all-tried)) (c .if3 .came))
 
   search-place-element-copy-out-if1 : search-place-lts.Need-element-copy-out-if1 search-place-told (search-place-at t) search-place.Post
   search-place-element-copy-out-if1 c = omega arith
@@ -275,9 +290,9 @@ module _ (t : ℕ) where
       let past = held .before .before .before in
       let s = past .before .before in
       let a = s .args in
-      let last = placed-last (a .starts .now) (a .list .now) (a .partial .now) (a .incumbent .now) (a .numbers .now) (a .p) (a .cost) (a .used) (a .left) (s .pre .1 .0) (past .if1 .taken) in
-      subst⁻¹ (λ (ns : List ℕ). Placed (a .starts .now) (a .list .now) (a .partial .now) (a .partial .now) (a .incumbent .now) (held .hold .last .1 .0) (a .numbers .now) ns (a .p) (a .cost) (a .left) (a .left)) (c .store .ensures)
-      (subst⁻¹ (λ (l : List ℕ). Placed (a .starts .now) (a .list .now) (a .partial .now) (a .partial .now) (a .incumbent .now) l (a .numbers .now) (set (a .numbers .now) 0 (a .cost)) (a .p) (a .cost) (a .left) (a .left)) (held .hold .ensures) last)
+      let last = placed-last (a .starts .now) (a .list .now) (fixedBehind (a .table .now)) (a .partial .now) (a .incumbent .now) (a .numbers .now) (a .p) (a .cost) (a .used) (a .left) (s .pre .1 .0) (past .if1 .taken) in
+      subst⁻¹ (λ (ns : List ℕ). Placed (a .starts .now) (a .list .now) (fixedBehind (a .table .now)) (a .partial .now) (a .partial .now) (a .incumbent .now) (held .hold .last .1 .0) (a .numbers .now) ns (a .p) (a .cost) (a .left) (a .left)) (c .store .ensures)
+      (subst⁻¹ (λ (l : List ℕ). Placed (a .starts .now) (a .list .now) (fixedBehind (a .table .now)) (a .partial .now) (a .partial .now) (a .incumbent .now) l (a .numbers .now) (set (a .numbers .now) 0 (a .cost)) (a .p) (a .cost) (a .left) (a .left)) (held .hold .ensures) last)
 
   search-place-added-row-requires : search-place-lts.Need-added-row-requires search-place-told (search-place-at t) search-place.Post
   search-place-added-row-requires c κs =
@@ -285,27 +300,52 @@ module _ (t : ℕ) where
       let s = here .before .before in
       let ready = s .pre .1 .0 in (
         (omega (arith, here .if1 .left, ready .few), omega (arith, ready .whole, ready .at, ready .few)),
-        (weights-own (s .pre .1 .1), (ready .lists (s .args .p) (here .if1 .left), ready-masks ready)),
+        (weights-own (s .pre .1 .1), (ready .lists (s .args .p) (here .if1 .left), ready .low)),
       )
 
   search-place-element-copy-out-masks : search-place-lts.Need-element-copy-out-masks search-place-told (search-place-at t) search-place.Post
   search-place-element-copy-out-masks c = omega arith
 
+  search-place-add-own : search-place-lts.Need-add-own search-place-told (search-place-at t) search-place.Post
+  search-place-add-own c =
+      let here = c .before .before .before in
+      omega (arith, here .if1 .left, here .before .before .pre .1 .0 .few)
+
+  search-place-mul-own : search-place-lts.Need-mul-own search-place-told (search-place-at t) search-place.Post
+  search-place-mul-own c =
+      let here = c .before .before .before in
+      omega (arith, here .if1 .left, here .before .before .pre .1 .0 .few)
+
+  search-place-element-copy-out-own : search-place-lts.Need-element-copy-out-own search-place-told (search-place-at t) search-place.Post
+  search-place-element-copy-out-own c =
+      let here = c .before .before .before in
+      omega (arith, here .if1 .left, here .before .before .pre .1 .0 .few)
+
   search-place-add-more : search-place-lts.Need-add-more search-place-told (search-place-at t) search-place.Post
   search-place-add-more c =
-      let s = c .before .before .before .before .before .before in
+      let s = c .before .before .before .before .before .before .before in
       omega (arith, s .pre .1 .0 .within, s .pre .1 .0 .masks)
+
+  search-place-cast-if3 : search-place-lts.Need-cast-if3 search-place-told (search-place-at t) search-place.Post
+  search-place-cast-if3 c = omega arith
+
+  search-place-cast-first : search-place-lts.Need-cast-first search-place-told (search-place-at t) search-place.Post
+  search-place-cast-first c =
+      let here = c .before .before .before .before .before .before in
+      let s = here .before .before in
+      let ready = s .pre .1 .0 in
+      omega (arith, own-low ready (here .if1 .left) (read (s .args .table .now) (s .args .p)) (c .if3 .taken), ready .masks)
 
   search-place-search-masks-requires : search-place-lts.Need-search-masks-requires search-place-told (search-place-at t) search-place.Post
   search-place-search-masks-requires c κs =
       let join = c .before .before .before .before in
       let s = given join in
       let a = s .args in
-      let told = join .before .before .added-row in
+      let told = join .before .before .before .before .added-row in
       let row : RowOf (a .starts .now) (a .list .now) (a .partial .now) (a .numbers .now) (a .p) (told .result)
       = row-of (s .pre .1 .1) (told .ensures) (λ m h. added-small (s .pre .1 .0) (entered join .if1 .left) m) in (
-        omega (arith, s .pre .0, all-tried join, s .pre .1 .0 .masks),
-        (s .pre .1 .0, (row, ((entered join .if1 .left, omega (arith, all-tried join)), s .pre .1 .1))),
+        omega (arith, s .pre .0, masks-tried join .0, s .pre .1 .0 .masks),
+        (s .pre .1 .0, (row, ((entered join .if1 .left, masks-tried join .0), s .pre .1 .1))),
       )
 
   search-place-returns-2 : search-place-lts.Need-returns-2 search-place-told (search-place-at t) search-place.Post
@@ -313,7 +353,7 @@ module _ (t : ℕ) where
       let join = c .before .before .before .before .before in
       let s = given join in
       let a = s .args in
-      placed-masks (a .starts .now) (a .list .now) (a .partial .now) (a .incumbent .now) (a .numbers .now) (a .p) (a .cost) (a .used) (a .left) (s .pre .1 .0) (join .if2 .more) (entered join .if1 .left) (all-tried join) (c .search-masks .ensures)
+      placed-masks (a .starts .now) (a .list .now) (fixedBehind (a .table .now)) (a .partial .now) (a .incumbent .now) (a .numbers .now) (a .p) (a .cost) (a .used) (a .left) (s .pre .1 .0) (join .if3 .first) (join .if3 .more) (entered join .if1 .left) (masks-tried join .1) (c .search-masks .ensures)
 
 pub +search-masks+search-place-spec : {M : Type 1} → statement M
 +search-masks+search-place-spec = close μ-search-masks μ-search-place (λ t. search-masks-lts.spec (search-masks-told t)
@@ -350,6 +390,11 @@ pub +search-masks+search-place-spec : {M : Type 1} → statement M
     (search-place-returns t)
     (search-place-added-row-requires t)
     (search-place-element-copy-out-masks t)
+    (search-place-add-own t)
+    (search-place-mul-own t)
+    (search-place-element-copy-out-own t)
     (search-place-add-more t)
+    (search-place-cast-if3 t)
+    (search-place-cast-first t)
     (search-place-search-masks-requires t)
     (search-place-returns-2 t)

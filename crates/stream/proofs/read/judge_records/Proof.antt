@@ -1,4 +1,4 @@
--- `judge_records`: each piece, then overlaps. Assumes nothing.
+-- `judge_records`: each piece, then overlaps and fixed masks. Assumes nothing.
 use borrow.Author.Needs.{needs}
 use mathlib.Core.Path.{sym, ap, subst, _∙_}
 use Rattle.rules.specs.Answers.{HandedBack}
@@ -11,8 +11,8 @@ use Rattle.stream.proofs.read.judge_records.Tie as tie
 flatten-requires : tie.Need-flatten-requires
 flatten-requires c κs = search needs
 
-judge-pieces-requires : tie.Need-judge-pieces-requires
-judge-pieces-requires c κs = search needs
+judge-each-requires : tie.Need-judge-each-requires
+judge-each-requires c κs = search needs
 
 enum-known-refusal : tie.Need-enum-known-refusal
 enum-known-refusal c = search needs
@@ -29,23 +29,23 @@ judge-read-requires c κs = search needs
 returns : tie.Need-returns
 returns c =
     let judged = c .before .before .before .before in
-    let stored = judged .before .before .flatten .ensures .stored in
-    let told = sym (judged .judge-pieces .ensures) ∙ ap judgement (c .before .before .refusal .given .1) in
-    subst (λ (o : Outcome Layer). HandedBack o (c .refuse .result)) (sym (records-stop _ _ _ _ stored _ _ told)) (c .refuse .ensures)
+    let stored = judged .before .before .before .flatten .ensures .stored in
+    let told = sym (judged .judge-each .ensures) ∙ ap judgement (c .before .before .refusal .given .1) in
+    subst (λ (o : Outcome Layer). HandedBack o (c .refuse .result)) (sym (records-stop _ _ _ _ _ stored _ _ told)) (c .refuse .ensures)
 
 returns-2 : tie.Need-returns-2
 returns-2 c =
     let judged = c .before .before .before in
-    let stored = judged .before .before .flatten .ensures .stored in
-    let told = sym (judged .judge-pieces .ensures) ∙ ap judgement (c .before .enum-told .given .1) in
-    subst (λ (o : Outcome Layer). HandedBack o (c .judge-read .result)) (sym (records-pass _ _ _ _ stored told)) (c .judge-read .ensures)
+    let stored = judged .before .before .before .flatten .ensures .stored in
+    let told = sym (judged .judge-each .ensures) ∙ ap judgement (c .before .enum-told .given .1) in
+    subst (λ (o : Outcome Layer). HandedBack o (c .judge-read .result)) (sym (records-pass _ _ _ _ _ stored told)) (c .judge-read .ensures)
 
 pub judge-records-spec : {M : Type 1} → statement M
 judge-records-spec =
     tie.close
     (tie.spec
     flatten-requires
-    judge-pieces-requires
+    judge-each-requires
     enum-known-refusal
     refuse-requires
     enum-told

@@ -1,14 +1,12 @@
 -- `read_layer`: the size, the six lines, and the text after them. Assumes nothing.
 use borrow.Author.Needs.{needs}
 use native.Mathlib.Omega.{arith}
-use mathlib.Core.List.{List}
 use mathlib.Core.Path.{sym, ap, subst, _∙_}
-use Prim.Native.Nat.{ℕ}
 use Rattle.rules.specs.Answers.{HandedBack}
 use Rattle.rules.specs.Questions.{Outcome, Layer, readBody}
 use Rattle.lines.proofs.NumberParts.{part-from}
 use Rattle.text.specs.Header.{headerBytes}
-use Rattle.text.proofs.LayerReading.{layer-large, layer-refused, layer-few, layer-on}
+use Rattle.text.proofs.LayerReading.{layer-large, layer-refused, layer-few, layer-masks, layer-on}
 use Rattle.text.proofs.read.read_layer.Statement.{statement}
 use Rattle.text.proofs.read.read_layer.Tie as tie
 
@@ -41,7 +39,10 @@ read-body-requires : tie.Need-read-body-requires
 read-body-requires c κs =
     let told = c .before .before in
     let read = told .before .before in
-    layer-few _ (read .before .if1 .left) (read .read-header .result) (read .read-header .ensures) _ _ _ (told .settings .given .1)
+    let small = read .before .if1 .left in (
+      layer-few _ small (read .read-header .result) (read .read-header .ensures) _ _ _ (told .settings .given .1),
+      layer-masks _ small (read .read-header .result) (read .read-header .ensures) _ _ _ (told .settings .given .1),
+    )
 
 enum-known-refusal : tie.Need-enum-known-refusal
 enum-known-refusal c = search needs

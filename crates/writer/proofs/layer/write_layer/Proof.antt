@@ -1,11 +1,10 @@
 -- `write_layer`: the buffer, the layer, then the text. Assumes nothing.
 use borrow.Author.Needs.{needs}
 use mathlib.Core.Path.{refl, sym, ap, _∙_}
-use native.Mathlib.Omega.{arith}
 use Rattle.rules.specs.Questions.{done}
 use Rattle.layout.specs.Judged.{judgement}
 use Rattle.lines.proofs.Puts.{put-front}
-use Rattle.text.proofs.LayerSizes.{layer-room}
+use Rattle.text_theory.proofs.LayerSizes.{layer-room}
 use Rattle.writer.proofs.Laying.{small-writes, refused-writes, valid-writes}
 use Rattle.writer.proofs.layer.write_layer.Statement.{statement}
 use Rattle.writer.proofs.layer.write_layer.Tie as tie

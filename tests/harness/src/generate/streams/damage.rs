@@ -58,7 +58,15 @@ fn change_settings(random: &mut Random, mut settings: Vec<u8>) -> Vec<u8> {
     let count: &[u8] = random.pick(&[b"1", b"2", b"513", b"00", b"", b"4294967296", b"-0"]);
     settings.truncate(settings.len() - 2);
     settings.extend(count);
-    settings.extend(random.pick(&[b"\n".as_slice(), b"\n", b"", b"\npiece=0,0,0,1,1\n", b"\nx"]));
+    let behind: &[&[u8]] = &[
+        b"\n",
+        b"\n",
+        b"",
+        b"\npiece=0,0,0,1,1\n",
+        b"\nfixed=0,0\n",
+        b"\nx",
+    ];
+    settings.extend(random.pick(behind));
     settings
 }
 

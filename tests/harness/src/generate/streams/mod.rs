@@ -7,7 +7,7 @@ mod optional;
 mod sizes;
 mod unit;
 
-use super::any_layer;
+use super::free_layer;
 use crate::input::Input;
 use crate::layer::{Layer, Piece};
 use crate::random::Random;
@@ -151,5 +151,5 @@ fn random_bytes(random: &mut Random, count: usize) -> Vec<u8> {
 fn short_layer(random: &mut Random) -> Layer {
     let most = random.pick(&[1, 3, 3, 8, 8, 40]);
     let count = random.between(0, most) as usize;
-    any_layer(random, count).with_budget(random.below(500))
+    free_layer(random, count).with_budget(random.below(500))
 }

@@ -50,6 +50,7 @@ fn square(number: u64) -> Piece {
         y1,
         x2: x1 + 20,
         y2: y1 + 20,
+        fixed: None,
     }
 }
 
@@ -95,7 +96,15 @@ const COUNTS: [&str; 9] = [
     "",
     "-1",
 ];
-const BEHIND: [&str; 6] = ["\n", "", "\n\n", "\nx", "\npiece=0,0,0,1,1\n", "\r\n"];
+const BEHIND: [&str; 7] = [
+    "\n",
+    "",
+    "\n\n",
+    "\nx",
+    "\npiece=0,0,0,1,1\n",
+    "\nfixed=0,0\n",
+    "\r\n",
+];
 
 fn counted() -> Vec<Vec<u8>> {
     let start = up_to_count();

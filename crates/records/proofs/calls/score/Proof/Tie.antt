@@ -24,11 +24,17 @@ After-shared-slice-known = Lts.After-shared-slice-known (Reads'.Asked, Reads'.Le
 abbrev pub After-flat : Type 0
 After-flat = Lts.After-flat (Reads'.Asked, Reads'.Learnt, Reads''.Asked, Reads''.Learnt) Reads.Pre Reads.Post
 
+abbrev pub After-fixed : Type 0
+After-fixed = Lts.After-fixed (Reads'.Asked, Reads'.Learnt, Reads''.Asked, Reads''.Learnt) Reads.Pre Reads.Post
+
 abbrev pub After-gather : Type 0
 After-gather = Lts.After-gather (Reads'.Asked, Reads'.Learnt, Reads''.Asked, Reads''.Learnt) Reads.Pre Reads.Post
 
 abbrev pub After-flat2 : Type 0
 After-flat2 = Lts.After-flat2 (Reads'.Asked, Reads'.Learnt, Reads''.Asked, Reads''.Learnt) Reads.Pre Reads.Post
+
+abbrev pub After-fixed2 : Type 0
+After-fixed2 = Lts.After-fixed2 (Reads'.Asked, Reads'.Learnt, Reads''.Asked, Reads''.Learnt) Reads.Pre Reads.Post
 
 abbrev pub After-score-flat : Type 0
 After-score-flat = Lts.After-score-flat (Reads'.Asked, Reads'.Learnt, Reads''.Asked, Reads''.Learnt) Reads.Pre Reads.Post
