@@ -2,10 +2,11 @@
 // the lists of its earlier neighbours, laid out once from the adjacency words of the pieces. The search goes along these lists and sees neither
 // units nor words; what it finds is put down at the units.
 mod chains;
+mod fixed;
 mod lists;
 mod order;
 
+pub use fixed::local_fixed;
 pub use lists::lay_out;
 pub use order::list_members;
-pub use order::local_fixed;
 pub use order::put_masks;

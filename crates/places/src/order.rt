@@ -1,10 +1,8 @@
 // From vertices to places and back.
-ghost use mathlib.Core.List.{map};
 ghost use mathlib.Core.Path.{_≡_};
 ghost use Prim.Native.Nat.{ℕ, _≤_, _<_};
-ghost use lib.ListN.{length, getD, take, set};
+ghost use lib.ListN.{length, getD, take};
 ghost use Rattle.rules.specs.Decomposition.{putMasks};
-ghost use Rattle.adjacency.specs.UnitGraph.{fixedAt};
 ghost use Rattle.places.specs.Order.{Ordered};
 use crate::chains::note;
 
@@ -25,29 +23,6 @@ pub fn list_members(members: &[u64; 8], order: &mut [u16; 512]) -> usize
         count += 1;
     }
     count
-}
-
-// Stores a mask.
-fn put(masks: &mut [u8; 512], at: usize, m: u8)
-    requires { ⌜ at < 512 ⌝ }
-    ensures { λ _. ⌜ now (masks .exit) ≡ set (now (masks .entry)) at m ⌝ }
-{
-    let all: &mut [u8] = masks;
-    all[at] = m;
-}
-
-// Stores the fixed masks of the places below `size`, from those of their vertices. What `local` has past them stays.
-pub fn local_fixed(order: &[u16; 512], size: usize, fixed: &[u8; 512], local: &mut [u8; 512])
-    requires { ⌜ (size ≤ 512) × (length (now order) ≡ 512) × (length (now fixed) ≡ 512) × (length (now local) ≡ 512) ⌝ }
-    requires { ⌜ ((i : ℕ) → i < size → getD (now order) i 0 < 512) ⌝ }
-    ensures { λ _. ⌜ take size (now (local .exit)) ≡ map (fixedAt (now (fixed .entry))) (take size (now (order .entry))) ⌝ }
-    ensures { λ _. ⌜ length (now (local .exit)) ≡ 512 ⌝ }
-{
-    let mut i = 0;
-    while i < size {
-        put(local, i, fixed[order[i] as usize]);
-        i += 1;
-    }
 }
 
 // Puts the masks of the places below `size` down at their vertices.

@@ -6,8 +6,8 @@ use Prim.Native.Nat.{ℕ, _+_, _-_, _≤_, _<_}
 use lib.ListN.{length, getD, take, length-set}
 use Rattle.adjacency.specs.UnitGraph.{fixedAt}
 use Rattle.places.proofs.Ordering.{fixed-next}
-use Rattle.places.proofs.order.local_fixed.Statement.{statement}
-use Rattle.places.proofs.order.local_fixed.Tie as tie
+use Rattle.places.proofs.fixed.local_fixed.Statement.{statement}
+use Rattle.places.proofs.fixed.local_fixed.Tie as tie
 
 abbrev Inv-loop : tie.InvT-loop
 Inv-loop order size fixed local₀ i₀ local i = (i ≤ size) × (length local ≡ 512) × (take i local ≡ map (fixedAt fixed) (take i order))
