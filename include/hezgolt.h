@@ -62,7 +62,7 @@ extern "C" {
  *   Pointers  layer can be read for layer_size bytes, and result read and written for result_size bytes. The two areas do
  *             not overlap, and nothing else writes to them during the call. A size of 0 is allowed; pass a pointer that is
  *             not null with it all the same.
- *   Stack     A call takes up to 546 KiB of its thread's stack, at 512 pieces that are searched to the last one (measured).
+ *   Stack     A call takes up to 560 KiB of its thread's stack, at 512 pieces that are searched to the last one (measured).
  *             Give the thread 1 MiB.
  *   Time      The setting `budget` bounds the steps of the search, and a call cannot be stopped before its end. A step takes
  *             2 to 10 ns (measured) where a piece conflicts with some dozens of others, so that the greatest budget,
