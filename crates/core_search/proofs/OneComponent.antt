@@ -23,8 +23,8 @@ use Rattle.theory.proofs.SameCost.{from-alike}
 use Rattle.places.specs.Local.{localAdded}
 use Rattle.places.specs.LaidOut.{LaidOut}
 use Rattle.places.specs.Order.{Ordered}
+use Rattle.first_assignment.specs.First.{FixedLow}
 use Rattle.search.specs.Branch.{sizeIn, masksIn, weightIn, budgetIn, fixedIn, stateIn}
-use Rattle.search.specs.First.{FixedLow}
 use Rattle.search.specs.Component.{searchLocal, Posed, Searched}
 use Rattle.core_search.specs.Core.{searchOf, Given, OneSearched}
 

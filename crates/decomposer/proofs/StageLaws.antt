@@ -22,7 +22,7 @@ use Rattle.units.proofs.UnitNeighbours.{unit-neighbours}
 use Rattle.reduction.specs.Removals.{PeeledTo}
 use Rattle.reduction.specs.Returning.{Masked, Placeable, PutBack}
 use Rattle.reduction.proofs.Reduced.{peeled-placeable, peeled-masked, put-back-all}
-use Rattle.search.proofs.Rows.{all-small}
+use Rattle.rows.proofs.Rows.{all-small}
 use Rattle.theory.proofs.Fixed.{FixedBelow}
 use Rattle.theory.proofs.SameEdges.{components-in}
 use Rattle.theory.proofs.SearchAll.{all-length, all-below}

@@ -1,4 +1,4 @@
--- Places with a fixed mask: what is read of them, which masks count as in use before a place, and which are tried there. Assumes nothing.
+-- Places with a fixed mask: which masks count as in use before a place, and which are tried there. Assumes nothing.
 use mathlib.Core.Bool.{Bool, true, false, _||_, cond}
 use mathlib.Core.List.{List, [], _∷_, _++_}
 use mathlib.Core.Logic.{_⊎_, inl, inr, ⊎-elim}
@@ -7,21 +7,17 @@ use Prim.Native.Nat.{ℕ, suc, _+_, _-_, _≤_, _<_, min}
 use native.Mathlib.Omega.{arith}
 use lib.Dec.{eqb, ltb}
 use lib.ListN.{length, getD, take}
-use lib.Seq.{getD-take, length-take-le}
+use lib.Seq.{length-take-le}
 use borrow.Author.Tests.{lt-ltb, le-ltb, eq-eqb, ne-eqb}
 use Rattle.rules.specs.Basics.{upTo, upFrom, occurs}
 use Rattle.rules.specs.Settings.{unset}
 use Rattle.rules.specs.Peeling.{isFixed}
 use Rattle.rules.specs.Search.{different, candidates, candidatesIn}
-use Rattle.rules.proofs.Lists.{any-snoc, any-found, default-same}
+use Rattle.rules.proofs.Lists.{any-snoc, any-found}
 use Rattle.rules.proofs.Tests.{lt-or-ge, clash}
 use Rattle.theory.proofs.Renaming.{different-snoc}
-use Rattle.search.specs.First.{fixedTo}
+use Rattle.first_assignment.proofs.Stored.{fixed-read}
 use Rattle.search.specs.Branch.{sizeIn, masksIn, fixedIn, triedIn, Used, renamed, every, Ready}
-
--- the byte that is read at a place is its fixed mask
-pub fixed-read : (fixed : List ℕ) (n i : ℕ) → i < n → n ≤ length fixed → getD fixed i 0 ≡ fixedTo fixed n i
-fixed-read fixed n i h l = default-same fixed i 0 unset (omega arith) ∙ sym (getD-take n fixed i unset h)
 
 -- ---- Masks in use
 

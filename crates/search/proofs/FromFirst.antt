@@ -13,11 +13,11 @@ use Rattle.rules.specs.Settings.{unset}
 use Rattle.rules.specs.Peeling.{isFixed}
 use Rattle.rules.specs.Search.{different, firstAfter, firstMask, total}
 use Rattle.places.specs.Local.{localAdded}
+use Rattle.rows.specs.Weights.{weightOf, fixedBehind, Weights, WithFixed}
+use Rattle.rows.proofs.Tables.{weight-of, behind-length}
+use Rattle.first_assignment.specs.First.{FixedLow, FirstOf}
 use Rattle.search.specs.Branch.{sizeIn, masksIn, weightIn, fixedIn, anyFixed, stateIn, placesFrom, Used, renamed, every, Ready, Placed}
-use Rattle.search.specs.First.{FixedLow, FirstOf}
-use Rattle.search.specs.Weights.{weightOf, fixedBehind, Weights, WithFixed}
 use Rattle.search.specs.Component.{searchLocal, Posed, Searched}
-use Rattle.search.proofs.Tables.{weight-of, behind-length}
 
 -- a first assignment by the table's weight
 pub first-by : {K weight : ℕ} {table starts list : List ℕ} {fixed : ℕ → ℕ} {n : ℕ} {partial : List ℕ} {c : ℕ} → Weights table weight → FirstOf K (weightOf table) starts list fixed n partial c

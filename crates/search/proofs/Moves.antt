@@ -2,36 +2,27 @@
 -- Assumes nothing.
 use mathlib.Core.Bool.{Bool, true}
 use mathlib.Core.List.{List, [], _∷_, _++_}
-use mathlib.Core.Logic.{_⊎_, ⊎-elim, by-cases}
+use mathlib.Core.Logic.{_⊎_, ⊎-elim}
 use mathlib.Core.Path.{_≡_, refl, sym, ap, ap₂, subst, subst⁻¹, _∙_}
 use Prim.Native.Nat.{ℕ, suc, _+_, _-_, _≤_, _<_}
-use native.Mathlib.Decide.{ℕ-discrete}
 use native.Mathlib.Numerals.{add-one}
 use native.Mathlib.Omega.{arith}
 use lib.Dec.{eqb}
 use lib.ListN.{length, getD, take, set, length-set}
-use lib.Seq.{take-take, take-set-le, take-suc-set, getD-take, getD-set-same, getD-set-other, length-take-le}
+use lib.Seq.{take-take, take-set-le, getD-take, getD-set-same, getD-set-other, length-take-le}
 use borrow.Author.Tests.{eq-eqb}
 use Rattle.rules.specs.Basics.{upFrom}
 use Rattle.rules.specs.Search.{candidatesIn, State, state, step, tryMasks, searchPlaces}
 use Rattle.theory.proofs.Search.{at-stop, at-enter, at-skip}
 use Rattle.places.specs.Local.{localAdded, PlaceLists}
+use Rattle.rows.specs.Weights.{weightOf, Weights}
+use Rattle.rows.proofs.Rows.{added-most}
+use Rattle.rows.proofs.Tables.{weight-of}
+use Rattle.first_assignment.proofs.Stored.{take-stored, stored-low}
 use Rattle.search.specs.Branch.{sizeIn, masksIn, weightIn, budgetIn, fixedIn, triedIn, stateIn, placesFrom, Ready, RowOf, Kept, Placed, Masked}
-use Rattle.search.specs.Weights.{weightOf, Weights}
-use Rattle.search.proofs.Rows.{added-most}
-use Rattle.search.proofs.Tables.{weight-of}
 use Rattle.search.proofs.FixedPlaces.{used-next}
 
 -- ---- Lists of masks
-
--- the masks before p and the one stored there
-pub take-stored : (l : List ℕ) (p m : ℕ) → p < length l → take (p + 1) (set l p m) ≡ take p l ++ (m ∷ [])
-take-stored l p m h = rw (add-one, take-suc-set l p m h)
-
-pub stored-low : (l : List ℕ) (p m : ℕ) → p < length l → m < 8 → ((i : ℕ) → i < p → getD l i 0 < 8) → (i : ℕ) → i < p + 1 → getD (set l p m) i 0 < 8
-stored-low l p m h k low i b = by-cases (ℕ-discrete p i)
-    (λ q. subst (λ (x : ℕ). getD (set l p m) x 0 < 8) q (omega (arith, getD-set-same l p m 0 h)))
-    (λ n. omega (arith, getD-set-other l p i m 0 (λ q. n (sym q)), low i (omega arith)))
 
 take-shorter : (l k : List ℕ) (p : ℕ) → take (p + 1) l ≡ take (p + 1) k → take p l ≡ take p k
 take-shorter l k p e = sym (take-take p (p + 1) l (omega arith)) ∙ ap (take p) e ∙ take-take p (p + 1) k (omega arith)

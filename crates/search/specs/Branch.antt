@@ -9,7 +9,7 @@ use Rattle.rules.specs.Basics.{upTo, upFrom, anyOf, occurs}
 use Rattle.rules.specs.Peeling.{isFixed}
 use Rattle.rules.specs.Search.{different, candidatesIn, State, state, tryMasks, searchPlaces}
 use Rattle.places.specs.Local.{localAdded, PlaceLists}
-use Rattle.search.specs.First.{fixedTo, FixedLow}
+use Rattle.first_assignment.specs.First.{fixedTo, FixedLow}
 
 abbrev pub sizeIn : List ℕ → ℕ
 sizeIn numbers = getD numbers 2 0

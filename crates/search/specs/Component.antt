@@ -6,8 +6,8 @@ use lib.Dec.{eqb}
 use lib.ListN.{length, getD}
 use Rattle.rules.specs.Search.{State, state, candidatesIn, firstAfter, firstMask, total, searchPlaces}
 use Rattle.places.specs.Local.{localAdded, PlaceLists}
+use Rattle.first_assignment.specs.First.{FixedLow}
 use Rattle.search.specs.Branch.{sizeIn, masksIn, weightIn, budgetIn, fixedIn, stateIn}
-use Rattle.search.specs.First.{FixedLow}
 
 -- the search of the rules (`searchFrom`) with the local problem's added cost: from the first assignment on, with the steps taken before
 abbrev pub searchLocal : List ℕ → List ℕ → List ℕ → List ℕ → ℕ → State

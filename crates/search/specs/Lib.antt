@@ -1,4 +1,2 @@
-pub mod Weights
-pub mod First
 pub mod Branch
 pub mod Component

@@ -7,9 +7,10 @@
 ghost use mathlib.Core.Path.{_≡_};
 ghost use Prim.Native.Nat.{_+_, _≤_, _<_};
 ghost use lib.ListN.{set};
+ghost use Rattle.rows.specs.Weights.{Weights, fixedBehind};
 ghost use Rattle.search.specs.Branch.{Ready, RowOf, Placed, Masked, sizeIn, weightIn, triedIn};
-ghost use Rattle.search.specs.Weights.{Weights, fixedBehind};
-use crate::row::added_row;
+use first_assignment::put;
+use rows::added_row;
 use rules::Piece;
 
 // The partial assignment becomes the incumbent.
@@ -26,15 +27,6 @@ pub fn store(numbers: &mut [u64; 6], i: usize, x: u64)
 {
     let all: &mut [u64] = numbers;
     all[i] = x;
-}
-
-// Stores a mask at a place.
-pub fn put(partial: &mut [u8; 512], i: usize, m: u8)
-    requires { ⌜ i < 512 ⌝ }
-    ensures { λ _. ⌜ now (partial .exit) ≡ set (now (partial .entry)) i m ⌝ }
-{
-    let all: &mut [u8] = partial;
-    all[i] = m;
 }
 
 // Searches the places from p on, where those before it have the masks of `partial`, which cost `cost`, and `left` steps are left. The masks

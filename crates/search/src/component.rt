@@ -3,10 +3,10 @@ ghost use Rattle.search.specs.Component.{Posed, Searched};
 use crate::branch::hold;
 use crate::branch::search_place;
 use crate::branch::store;
-use crate::first::first_assignment;
-use crate::first::has_fixed;
-use crate::row::note_fixed;
-use crate::row::weight_table;
+use first_assignment::first_assignment;
+use first_assignment::has_fixed;
+use rows::note_fixed;
+use rows::weight_table;
 
 // `fixed` has the fixed masks of the places. Leaves the best masks that were found in `incumbent`, and their cost and whether the search was
 // stopped in `numbers`, where the rest is given. Answers how many of the `left` steps are left then.

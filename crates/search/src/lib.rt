@@ -2,7 +2,5 @@
 // each has the list of its earlier neighbours. The search of all components stands on this crate.
 mod branch;
 mod component;
-mod first;
-mod row;
 
 pub use component::search_component;

@@ -11,9 +11,9 @@ use lib.Seq.{getD-drop}
 use borrow.Author.Needs.{needs}
 use Rattle.rules.specs.Basics.{upFrom}
 use Rattle.rules.specs.Search.{candidatesIn}
+use Rattle.rows.specs.Weights.{fixedBehind, Weights}
+use Rattle.rows.proofs.Tables.{weights-own}
 use Rattle.search.specs.Branch.{sizeIn, masksIn, fixedIn, triedIn, Ready, RowOf, Placed, Masked}
-use Rattle.search.specs.Weights.{fixedBehind, Weights}
-use Rattle.search.proofs.Tables.{weights-own}
 use Rattle.search.proofs.FixedPlaces.{own-low, tried-at}
 use Rattle.search.proofs.Moves.{row-of, ready-next, added-small, masked-none, masked-stop, masked-skip, kept-below, masked-enter, Went, went-as, MasksLeft, masks-all, masks-next, placed-masks, placed-last}
 use borrow.Fn.Kinds.{In}
@@ -25,9 +25,9 @@ use Rattle.search.proofs.branch.search_place.Reads as search-place
 use Rattle.search.proofs.branch.search_place.Kinds as search-place-kinds
 use Rattle.search.proofs.branch.+search_masks+search_place.Lts-search_place as search-place-lts
 use Rattle.search.proofs.branch.hold.Reads as hold-reads
-use Rattle.search.proofs.branch.put.Reads as put-reads
+use Rattle.first_assignment.proofs.put.Reads as put-reads
 use Rattle.search.proofs.branch.store.Reads as store-reads
-use Rattle.search.proofs.row.added_row.Reads as added-row-reads
+use Rattle.rows.proofs.added_row.Reads as added-row-reads
 use Rattle.search.proofs.branch.+search_masks+search_place.{statement}
 use Rattle.search.proofs.branch.+search_masks+search_place.Tie.{close}
 

@@ -6,9 +6,9 @@ use mathlib.Core.Logic.{_⊎_, inl, inr, ⊎-elim}
 use mathlib.Core.Path.{_≡_, refl, sym, ap, subst, subst⁻¹, _∙_}
 use Prim.Native.Nat.{ℕ}
 use lib.ListN.{set}
+use Rattle.rows.specs.Weights.{fixedBehind, Weights, WithFixed}
+use Rattle.rows.proofs.Tables.{weights-own, fixed-by}
 use Rattle.search.specs.Branch.{sizeIn, masksIn, weightIn, anyFixed, Ready, Placed}
-use Rattle.search.specs.Weights.{fixedBehind, Weights, WithFixed}
-use Rattle.search.proofs.Tables.{weights-own, fixed-by}
 use Rattle.search.proofs.FromFirst.{first-by, weights-first, ready-first, searched-first}
 use Rattle.search.proofs.component.search_component.Statement.{statement}
 use Rattle.search.proofs.component.search_component.Tie as tie

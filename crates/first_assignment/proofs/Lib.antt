@@ -1,0 +1,3 @@
+-- Laws of the first assignment.
+pub mod Stored
+pub mod Firsts
