@@ -4,8 +4,8 @@ ghost use Rattle.layout.specs.Flat.{piecesOf};
 ghost use Rattle.adjacency.specs.Adjacency.{tieOf, RowTo, Ties};
 use crate::words::clear;
 use crate::words::join_where;
+use edges::tie;
 use layout::piece_at;
-use layout::tie;
 use rules::Settings;
 
 // Adds the ties between piece j and each piece up to it.

@@ -169,7 +169,7 @@ fn joined(name: &[u8], shape: u32, x: u32, y: u32, wanted: &[u8]) {
         y2: 1000,
         fixed: Piece::UNSET,
     };
-    let answer = layout::edge(settings(), square, other);
+    let answer = edge_call::edge(settings(), square, other);
     match answer {
         EdgeAnswer::Found(edge) => named(name, edge, wanted),
         EdgeAnswer::Refused(refusal, place) => other_refusal(name, refusal, place),

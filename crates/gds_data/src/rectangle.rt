@@ -7,8 +7,8 @@ ghost use lib.ListN.{length};
 ghost use Rattle.rules.specs.Stream.{signed32, pointAt, liesAt, isRectangle};
 ghost use Rattle.gds_data.specs.Rectangles.{pointFrom, cornerPiece};
 use crate::words::word32;
-use layout::greater;
-use layout::lesser;
+use edges::greater;
+use edges::lesser;
 use rules::Piece;
 
 // Whether the point that starts at a byte lies at x and y.

@@ -3,4 +3,3 @@ pub mod PieceLaws
 pub mod RecordLaws
 pub mod WithoutFixed
 pub mod StoredPieces
-pub mod Squares

@@ -8,8 +8,8 @@ ghost use Rattle.rules.specs.Edges.{overlapping};
 ghost use Rattle.rules.specs.Questions.{askEach, judgePiece, judgeRecord, judgeRecords, judgeOverlaps, withFixed};
 ghost use Rattle.layout.specs.Flat.{pieceOf, piecesOf, recordOf, recordsOf};
 ghost use Rattle.layout.specs.Judged.{judgement};
-use crate::distance::overlap;
 use crate::flat::piece_at;
+use edges::pieces_overlap;
 use rules::Piece;
 use rules::Place;
 use rules::Refusal;
@@ -77,16 +77,6 @@ pub fn judge_record(masks: u32, place: Place, p: Piece, fixed: u8) -> Judgement
         return Judgement::Refused(Refusal::Area, place);
     }
     Judgement::Passed
-}
-
-// Whether two pieces of one shape overlap.
-pub fn pieces_overlap(a: Piece, b: Piece) -> bool
-    ensures { λ r. ⌜ r ≡ overlapping a b ⌝ }
-{
-    if a.shape != b.shape {
-        return false;
-    }
-    0 < overlap(a.x1, a.x2, b.x1, b.x2) && 0 < overlap(a.y1, a.y2, b.y1, b.y2)
 }
 
 // Questions 4, 13 and 5 of the first n pieces.

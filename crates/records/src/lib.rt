@@ -7,4 +7,4 @@ mod gathering;
 pub use calls::decompose;
 pub use calls::score;
 pub use calls::write_layer;
-pub use layout::edge;
+pub use edge_call::edge;

@@ -1,0 +1,2 @@
+-- What the functions' proofs cite: squares of distances.
+pub mod Squares
