@@ -14,7 +14,7 @@ use Rattle.rules.specs.Questions.{Valid}
 use Rattle.rules.specs.ResultText.{verdictLine, resultKeys, resultNumbers, maskLine, maskLines, resultText}
 use Rattle.lines.proofs.LineSizes.{number-length, more-length}
 use Rattle.theory.proofs.Results.{ResultBounds, run-bounds}
-use Rattle.writer.proofs.Laying.{result-size}
+use Rattle.result_writer.proofs.ResultLines.{result-size}
 
 verdict-length : (v : Verdict) → length (verdictLine v) ≡ 13
 unfolding ascii

@@ -31,7 +31,7 @@ fn write_run(
     ensures { λ r. ⌜ Wrote (run settings (recordsOf (now (flat .entry)) (now (fixed .entry)) (length (now (masks .entry))))) (now (buffer .entry)) r (now (buffer .exit)) ⌝ }
 {
     let result = decomposer::decompose(settings, flat, fixed, masks.len(), masks);
-    writer::write_result(buffer, result, masks)
+    result_writer::write_result(buffer, result, masks)
 }
 
 // The same of the first records.

@@ -181,7 +181,7 @@ fn run_stages(
         return result.steps as u64;
     }
     let mut buffer = [0u8; 4096];
-    let length = writer::write_result(&mut buffer, result, masks);
+    let length = result_writer::write_result(&mut buffer, result, masks);
     if last == 9 {
         io::write_all(STDOUT_FILENO, &buffer[..length]);
     }

@@ -1,40 +1,24 @@
--- Mask lines and piece lines, written one after the other, and the room that they take; the parts of a result; what writing a layer comes to. Assumes nothing.
+-- Piece lines, written one after the other, and the room that they take; what writing a layer comes to. Assumes nothing.
 use mathlib.Core.List.{List, [], _∷_, _++_}
 use mathlib.Core.Path.{_≡_, refl, sym, ap, ap₂, _∙_}
 use Prim.Native.Nat.{ℕ, _+_, _-_, _*_, _≤_, _<_}
 use native.Mathlib.Omega.{arith}
-use lib.ListN.{length, getD, take, drop, length-append, length-drop}
+use lib.ListN.{length, getD, take, drop, length-drop}
 use lib.Seq.{getD-take, getD-drop, length-take-le}
 use borrow.Author.Tests.{le-leb, lt-leb}
 use Rattle.rules.specs.declared.layer.Settings.{Settings}
 use Rattle.rules.specs.declared.layer.Piece.{Piece}
 use Rattle.rules.specs.declared.refusal.Place.{Place}
 use Rattle.rules.specs.Calls.{writeLayer}
-use Rattle.rules.specs.Decomposition.{Run}
-use Rattle.rules.specs.Lines.{ascii, line, numberLines}
+use Rattle.rules.specs.Lines.{ascii, line}
 use Rattle.rules.specs.LayerText.{pieceNumbers, pieceLine, pieceLines, layerText}
 use Rattle.rules.specs.Questions.{done, refused, judgeLayer, Valid, pieceFrom}
-use Rattle.rules.specs.ResultText.{verdictLine, resultKeys, resultNumbers, maskLine, maskLines, resultText}
 use Rattle.rules.specs.Settings.{noPiece, unset}
 use Rattle.layout.specs.Flat.{pieceOf, piecesOf}
 use Rattle.layout.proofs.PieceLaws.{pieces-length, pieces-first, piece-of}
 use Rattle.lines.specs.Writing.{laid}
 use Rattle.lines.proofs.NumberLines.{laid-next, laid-room}
 use Rattle.text_theory.proofs.WrittenPieces.{five}
-
--- ---- Masks
-
-mask-laid : (masks : List ℕ) → maskLines masks ≡ laid maskLine masks
-unfolding maskLines laid
-mask-laid [] = refl
-mask-laid (m ∷ masks) = ap (λ (l : List ℕ). maskLine m ++ l) (mask-laid masks)
-
-module _ (masks : List ℕ) (k : ℕ) (h : k < length masks) where
-  pub masks-next : maskLines (take (k + 1) masks) ≡ maskLines (take k masks) ++ maskLine (getD masks k 0)
-  masks-next = mask-laid (take (k + 1) masks) ∙ laid-next maskLine 0 masks k h ∙ ap (λ (l : List ℕ). l ++ maskLine (getD masks k 0)) (sym (mask-laid (take k masks)))
-
-  pub masks-room : length (maskLines (take k masks)) + length (maskLine (getD masks k 0)) ≤ length (maskLines masks)
-  masks-room = rw (mask-laid (take k masks), mask-laid masks) (laid-room maskLine 0 masks k h)
 
 -- ---- Pieces
 
@@ -86,14 +70,6 @@ pub five-part : (flat : List ℕ) (from k : ℕ) → from ≡ 5 * k → take (fr
 five-part flat from k e =
     let size : from + 5 - from ≡ 5 = omega arith in
     rw (size, e)
-
--- ---- A result
-
-pub result-size : (r : Run) → length (resultText r) ≡ length (verdictLine (r .verdict)) + length (numberLines resultKeys (resultNumbers r)) + length (maskLines (r .masks))
-unfolding resultText
-result-size r =
-    let lines = verdictLine (r .verdict) ++ numberLines resultKeys (resultNumbers r) in
-    omega (arith, length-append lines (maskLines (r .masks)), length-append (verdictLine (r .verdict)) (numberLines resultKeys (resultNumbers r)))
 
 -- ---- A layer
 

@@ -10,8 +10,8 @@ use Rattle.rules.specs.ResultText.{resultKeys}
 use Rattle.lines.specs.Writing.{Put}
 use Rattle.lines.proofs.NumberLines.{lines-next, lines-room}
 use Rattle.lines.proofs.Puts.{put-none, put-as, put-on}
-use Rattle.writer.proofs.result.write_counts.Statement.{statement}
-use Rattle.writer.proofs.result.write_counts.Tie as tie
+use Rattle.result_writer.proofs.write_counts.Statement.{statement}
+use Rattle.result_writer.proofs.write_counts.Tie as tie
 
 abbrev Inv-loop : tie.InvT-loop
 Inv-loop buffer₀ at counts end₀ i₀ buffer end i = (i ≤ 4) × (length counts ≡ 4) × (length buffer ≡ length buffer₀) × Put buffer₀ at (numberLines resultKeys (take i counts)) end buffer × (at + length (numberLines resultKeys counts) ≤ length buffer₀)

@@ -7,8 +7,8 @@ use Rattle.rules.specs.declared.answers.Verdict.{Verdict}
 use Rattle.rules.specs.Lines.{ascii}
 use Rattle.rules.specs.ResultText.{verdictLine}
 use Rattle.lines.proofs.Puts.{put-as}
-use Rattle.writer.proofs.result.write_verdict.Statement.{statement}
-use Rattle.writer.proofs.result.write_verdict.Tie as tie
+use Rattle.result_writer.proofs.write_verdict.Statement.{statement}
+use Rattle.result_writer.proofs.write_verdict.Tie as tie
 
 enum-told : tie.Need-enum-told
 enum-told c = search needs

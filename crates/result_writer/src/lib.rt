@@ -1,4 +1,4 @@
-// The result text.
+// The result text (RULES 10) written into a lent buffer. The loader's calls stand on this crate, and `demands` on how long the text is.
 ghost use mathlib.Core.Path.{_≡_};
 ghost use mathlib.Core.List.{[], _∷_};
 ghost use Prim.Native.Nat.{_+_, _<_, _≤_};

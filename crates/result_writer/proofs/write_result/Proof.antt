@@ -6,9 +6,9 @@ use Rattle.rules.specs.Answers.{runOf}
 use Rattle.rules.specs.ResultText.{resultText}
 use Rattle.lines.specs.Writing.{Put}
 use Rattle.lines.proofs.Puts.{put-on, put-front}
-use Rattle.writer.proofs.Laying.{result-size}
-use Rattle.writer.proofs.result.write_result.Statement.{statement}
-use Rattle.writer.proofs.result.write_result.Tie as tie
+use Rattle.result_writer.proofs.ResultLines.{result-size}
+use Rattle.result_writer.proofs.write_result.Statement.{statement}
+use Rattle.result_writer.proofs.write_result.Tie as tie
 
 write-verdict-requires : tie.Need-write-verdict-requires
 write-verdict-requires c κs =

@@ -8,8 +8,8 @@ use lib.ListN.{length, getD}
 use Rattle.rules.specs.Lines.{ascii, line}
 use Rattle.rules.specs.ResultText.{resultKeys}
 use Rattle.lines.specs.Writing.{Put}
-use Rattle.writer.proofs.result.write_count.Statement.{statement}
-use Rattle.writer.proofs.result.write_count.Tie as tie
+use Rattle.result_writer.proofs.write_count.Statement.{statement}
+use Rattle.result_writer.proofs.write_count.Tie as tie
 
 slice-aggregate-write-number-line : tie.Need-slice-aggregate-write-number-line
 slice-aggregate-write-number-line c = search needs

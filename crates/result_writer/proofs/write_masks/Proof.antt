@@ -9,9 +9,9 @@ use Rattle.rules.specs.Lines.{ascii}
 use Rattle.rules.specs.ResultText.{maskLines}
 use Rattle.lines.specs.Writing.{Put}
 use Rattle.lines.proofs.Puts.{put-none, put-as, put-on}
-use Rattle.writer.proofs.Laying.{masks-next, masks-room}
-use Rattle.writer.proofs.result.write_masks.Statement.{statement}
-use Rattle.writer.proofs.result.write_masks.Tie as tie
+use Rattle.result_writer.proofs.ResultLines.{masks-next, masks-room}
+use Rattle.result_writer.proofs.write_masks.Statement.{statement}
+use Rattle.result_writer.proofs.write_masks.Tie as tie
 
 abbrev Inv-loop : tie.InvT-loop
 Inv-loop buffer₀ at masks end₀ k₀ t6 buffer end k = (k ≤ length masks) × (length buffer ≡ length buffer₀) × Put buffer₀ at (maskLines (take k masks)) end buffer × (at + length (maskLines masks) ≤ length buffer₀)
