@@ -1,3 +1,3 @@
--- What the functions' proofs cite: laws of pairs of pieces, and of the questions of given masks.
-pub mod PairLaws
+-- What the functions' proofs cite: laws of what was counted, and of the questions of given masks.
+pub mod TallyLaws
 pub mod QuestionLaws

@@ -9,9 +9,10 @@ use Rattle.rules.specs.declared.answers.Scoring.{Scoring}
 use Rattle.rules.specs.declared.refusal.Place.{Place}
 use Rattle.rules.specs.Edges.{graphOf}
 use Rattle.rules.specs.Settings.{unset}
-use Rattle.rules.specs.Score.{maskOf, isSet, scoreOf, pairsOf}
+use Rattle.rules.specs.Score.{maskOf, isSet, costOf, scoreOf, pairsOf}
 use Rattle.rules.specs.Units.{unitOf, fitsUnit}
 use Rattle.rules.specs.Questions.{Outcome, done, ask, andThen, askEach}
+use Rattle.pair_tests.specs.declared.Tally.{Tally}
 
 -- whether a mask is not set, or below the limit
 abbrev pub allowedMask : ℕ → ℕ → Bool
@@ -28,6 +29,13 @@ unitQuestion unit n masks i = ask (fitsUnit unit n masks i) 12 (Place.Piece i)
 -- the score, and beside it the pairs tested
 abbrev pub scoringOf : Settings → List Piece → ℕ → List ℕ → Scoring
 scoringOf s ps n masks = record { score = scoreOf (s .weight) (graphOf s ps) masks n; tested = pairsOf n }
+
+-- the score of what was counted
+abbrev pub tallied : ℕ → Tally → Scoring
+tallied weight t = record {
+  score = record { conflicts = t .conflicts; stitches = t .stitches; cost = costOf weight (t .conflicts) (t .stitches) };
+  tested = t .tested;
+}
 
 -- 12 of every piece, then the score
 abbrev pub unitsScored : Settings → List Piece → ℕ → List ℕ → Outcome Scoring

@@ -8,7 +8,7 @@ use Rattle.layout.specs.Flat.{piecesOf}
 use Rattle.layout.specs.Judged.{judgement}
 use Rattle.layout.proofs.PieceLaws.{valid-flat}
 use Rattle.units.proofs.TieUnits.{ties-ways, flat-numbered}
-use Rattle.scoring.proofs.PairLaws.{few-pairs, tally-scoring}
+use Rattle.scoring.proofs.TallyLaws.{few-pairs, tally-scoring}
 use Rattle.scoring.proofs.QuestionLaws.{unit-masked, split-asked}
 use Rattle.scoring.proofs.flat.score_units.Statement.{statement}
 use Rattle.scoring.proofs.flat.score_units.Tie as tie

@@ -1,7 +1,7 @@
 -- `conflict_by`: of the four kinds only a conflict edge looks at the masks. Assumes nothing.
 use borrow.Author.Needs.{needs}
-use Rattle.scoring.proofs.pairs.conflict_by.Statement.{statement}
-use Rattle.scoring.proofs.pairs.conflict_by.Tie as tie
+use Rattle.pair_tests.proofs.conflict_by.Statement.{statement}
+use Rattle.pair_tests.proofs.conflict_by.Tie as tie
 
 enum-told : tie.Need-enum-told
 enum-told c = search needs

@@ -9,9 +9,9 @@ use Rattle.rules.specs.Score.{maskOf}
 use Rattle.adjacency.specs.Kinds.{isSome}
 use Rattle.adjacency.proofs.KindLaws.{none-found}
 use Rattle.rules.proofs.Tests.{failed}
-use Rattle.scoring.proofs.PairLaws.{adds-nothing, conflict-by-le, stitch-by-le}
-use Rattle.scoring.proofs.pairs.add_edge.Statement.{statement}
-use Rattle.scoring.proofs.pairs.add_edge.Tie as tie
+use Rattle.pair_tests.proofs.PairLaws.{adds-nothing, conflict-by-le, stitch-by-le}
+use Rattle.pair_tests.proofs.add_edge.Statement.{statement}
+use Rattle.pair_tests.proofs.add_edge.Tie as tie
 
 is-some-requires : tie.Need-is-some-requires
 is-some-requires c κs = search needs

@@ -6,20 +6,16 @@ use mathlib.Core.Path.{_≡_, refl, sym, _∙_}
 use Prim.Native.Nat.{ℕ, _+_, _≤_}
 use native.Mathlib.Omega.{arith}
 use Rattle.rules.specs.declared.layer.Settings.{Settings}
-use Rattle.rules.specs.declared.layer.Piece.{Piece}
 use Rattle.rules.specs.declared.layer.Edge.{Edge}
 use Rattle.rules.specs.Basics.{given, sumPairs}
-use Rattle.rules.specs.Edges.{conflictEdge, stitchEdge, edgeOf, graphOf}
-use Rattle.rules.specs.Settings.{pieceAt}
-use Rattle.rules.specs.Score.{maskOf, conflictsOf, stitchesOf, scoreOf, pairsOf}
+use Rattle.rules.specs.Edges.{edgeOf, graphOf}
+use Rattle.rules.specs.Score.{maskOf, conflictsOf, stitchesOf}
 use Rattle.layout.specs.Flat.{pieceOf, piecesOf}
 use Rattle.adjacency.specs.Kinds.{isSome, isConflict, isStitch}
-use Rattle.scoring.specs.declared.pairs.Counts.{Counts}
-use Rattle.scoring.specs.declared.pairs.Tally.{Tally}
+use Rattle.pair_tests.specs.declared.Counts.{Counts}
 use Rattle.counting.specs.Counted.{oneMask, twoMasks}
-use Rattle.scoring.specs.MaskQuestions.{scoringOf}
-use Rattle.scoring.specs.PairTests.{conflictBy, stitchBy, countsWith, conflictAt, stitchAt, tallied}
-use Rattle.rules.proofs.ScoreBounds.{given-le, given-nothing, conflicts-small, stitches-small}
+use Rattle.pair_tests.specs.PairTests.{conflictBy, stitchBy, countsWith, conflictAt, stitchAt}
+use Rattle.rules.proofs.ScoreBounds.{given-le, given-nothing}
 use Rattle.rules.proofs.Sums.{pairs-ext}
 use Rattle.adjacency.proofs.KindLaws.{conflict-kind, stitch-kind, none-found}
 use Rattle.layout.proofs.PieceLaws.{piece-of}
@@ -78,18 +74,3 @@ module _ (s : Settings) (flat masks : List ℕ) where
   unfolding stitchesOf
   pairs-stitches n = pairs-ext n λ u v h l. stitch-counts (edgeOf s (pieceOf flat u) (pieceOf flat v)) (maskOf masks u) (maskOf masks v)
       ∙ rw (stitch-kind s (pieceOf flat u) (pieceOf flat v), piece-of flat n u (omega arith), piece-of flat n v l)
-
--- ---- a layer
-
-module _ (s : Settings) (ps : List Piece) (n : ℕ) (masks : List ℕ) (t : Tally) (conflicts : t .conflicts ≡ conflictsOf (graphOf s ps) masks n) (stitches : t .stitches ≡ stitchesOf (graphOf s ps) masks n) where
-  -- its counts are small
-  pub few-pairs : n ≤ 512 → (t .conflicts ≤ 130_816) × (t .stitches ≤ 130_816)
-  few-pairs few = (
-    rw conflicts (conflicts-small _ _ _ few (λ u v. given-le (conflictEdge s (pieceAt ps u) (pieceAt ps v)) {x = 1} (omega arith))),
-    rw stitches (stitches-small _ _ _ few (λ u v. given-le (stitchEdge s (pieceAt ps u) (pieceAt ps v)) {x = 1} (omega arith))),
-  )
-
-  -- and its answer
-  pub tally-scoring : t .tested ≡ pairsOf n → tallied (s .weight) t ≡ scoringOf s ps n masks
-  unfolding scoreOf
-  tally-scoring tested = rw (← conflicts, ← stitches, ← tested)

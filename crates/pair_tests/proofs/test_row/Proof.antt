@@ -8,14 +8,14 @@ use Rattle.layout.specs.Flat.{pieceOf}
 use Rattle.adjacency.specs.Kinds.{isTie}
 use Rattle.adjacency.proofs.KindLaws.{tie-kind}
 use Rattle.adjacency.specs.Adjacency.{tieOf, RowTo}
-use Rattle.scoring.specs.PairTests.{conflictAt, stitchAt}
+use Rattle.pair_tests.specs.PairTests.{conflictAt, stitchAt}
 use Rattle.rules.proofs.Edges.{tie-sym}
 use Rattle.rules.proofs.Ranges.{settings-facts}
 use Rattle.rules.proofs.Sums.{sum-more, sum-le}
 use Rattle.adjacency.proofs.AdjacencyLaws.{row-none, row-more}
-use Rattle.scoring.proofs.PairLaws.{conflict-le, stitch-le}
-use Rattle.scoring.proofs.pairs.test_row.Statement.{statement}
-use Rattle.scoring.proofs.pairs.test_row.Tie as tie
+use Rattle.pair_tests.proofs.PairLaws.{conflict-le, stitch-le}
+use Rattle.pair_tests.proofs.test_row.Statement.{statement}
+use Rattle.pair_tests.proofs.test_row.Tie as tie
 
 abbrev Inv-loop : tie.InvT-loop
 Inv-loop settings flat masks j ties₀ p reach tested₀ counts₀ i₀ ties tested counts i =

@@ -1,5 +1,5 @@
 // One pass over the unordered pairs of pieces. Each pair is tested for an edge once, from its greater number, and the same test says whether it is a conflict, a
-// stitch or a tie. Tests are counted where they are made, whether the ends of the pair are set or not.
+// stitch or a tie. Tests are counted where they are made, whether the ends of the pair are set or not. Scoring stands on this crate.
 ghost use mathlib.Core.Bool.{true, _&&_, _||_};
 ghost use mathlib.Core.Path.{_≡_};
 ghost use Prim.Native.Nat.{ℕ, _<_, _≤_};
@@ -13,7 +13,7 @@ ghost use Rattle.rules.specs.Settings.{settingsInRange, pieceInRange};
 ghost use Rattle.layout.specs.Flat.{pieceOf, piecesOf};
 ghost use Rattle.adjacency.specs.Adjacency.{tieOf, isPair, RowTo, Ties};
 ghost use Rattle.adjacency.specs.Kinds.{isTie};
-ghost use Rattle.scoring.specs.PairTests.{conflictBy, stitchBy, countsWith, conflictAt, stitchAt};
+ghost use Rattle.pair_tests.specs.PairTests.{conflictBy, stitchBy, countsWith, conflictAt, stitchAt};
 use adjacency::is_some;
 use adjacency::is_tie;
 use counting::counted;

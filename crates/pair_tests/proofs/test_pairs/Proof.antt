@@ -4,13 +4,13 @@ use Prim.Native.Nat.{_+_, _≤_, _<_, _-_}
 use native.Mathlib.Omega.{arith}
 use Rattle.rules.specs.Basics.{sumTo, sumPairs}
 use Rattle.adjacency.specs.Adjacency.{tieOf}
-use Rattle.scoring.specs.PairTests.{conflictAt, stitchAt}
+use Rattle.pair_tests.specs.PairTests.{conflictAt, stitchAt}
 use Rattle.rules.proofs.Sums.{pairs-more, pairs-count}
 use Rattle.layout.proofs.PieceLaws.{valid-flat}
 use Rattle.adjacency.proofs.AdjacencyLaws.{Rows, rows-none, rows-more, rows-ties}
-use Rattle.scoring.proofs.PairLaws.{conflict-le, stitch-le, pairs-conflicts, pairs-stitches}
-use Rattle.scoring.proofs.pairs.test_pairs.Statement.{statement}
-use Rattle.scoring.proofs.pairs.test_pairs.Tie as tie
+use Rattle.pair_tests.proofs.PairLaws.{conflict-le, stitch-le, pairs-conflicts, pairs-stitches}
+use Rattle.pair_tests.proofs.test_pairs.Statement.{statement}
+use Rattle.pair_tests.proofs.test_pairs.Tie as tie
 
 abbrev Inv-loop : tie.InvT-loop
 Inv-loop settings flat n masks ties₀ tested₀ conflicts₀ stitches₀ j₀ ties tested conflicts stitches j =

@@ -1,7 +1,7 @@
 -- `stitch_by`: of the four kinds only a stitch edge looks at the masks. Assumes nothing.
 use borrow.Author.Needs.{needs}
-use Rattle.scoring.proofs.pairs.stitch_by.Statement.{statement}
-use Rattle.scoring.proofs.pairs.stitch_by.Tie as tie
+use Rattle.pair_tests.proofs.stitch_by.Statement.{statement}
+use Rattle.pair_tests.proofs.stitch_by.Tie as tie
 
 enum-told : tie.Need-enum-told
 enum-told c = search needs

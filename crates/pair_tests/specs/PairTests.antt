@@ -3,13 +3,11 @@ use mathlib.Core.List.{List}
 use Prim.Native.Nat.{ℕ, _+_}
 use Rattle.rules.specs.declared.layer.Settings.{Settings}
 use Rattle.rules.specs.declared.layer.Edge.{Edge}
-use Rattle.rules.specs.declared.answers.Scoring.{Scoring}
 use Rattle.rules.specs.Basics.{given}
 use Rattle.rules.specs.Edges.{edgeOf}
-use Rattle.rules.specs.Score.{maskOf, costOf}
+use Rattle.rules.specs.Score.{maskOf}
 use Rattle.layout.specs.Flat.{pieceOf}
-use Rattle.scoring.specs.declared.pairs.Counts.{Counts}
-use Rattle.scoring.specs.declared.pairs.Tally.{Tally}
+use Rattle.pair_tests.specs.declared.Counts.{Counts}
 use Rattle.counting.specs.Counted.{oneMask, twoMasks}
 
 -- 1 where an edge is a conflict between ends with these masks
@@ -36,10 +34,3 @@ conflictAt s flat masks u v = conflictBy (edgeOf s (pieceOf flat u) (pieceOf fla
 
 abbrev pub stitchAt : Settings → List ℕ → List ℕ → ℕ → ℕ → ℕ
 stitchAt s flat masks u v = stitchBy (edgeOf s (pieceOf flat u) (pieceOf flat v)) (maskOf masks u) (maskOf masks v)
-
--- the score of what was counted
-abbrev pub tallied : ℕ → Tally → Scoring
-tallied weight t = record {
-  score = record { conflicts = t .conflicts; stitches = t .stitches; cost = costOf weight (t .conflicts) (t .stitches) };
-  tested = t .tested;
-}

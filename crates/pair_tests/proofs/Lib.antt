@@ -1,0 +1,2 @@
+-- What the functions' proofs cite: laws of pairs of pieces.
+pub mod PairLaws
