@@ -12,7 +12,7 @@ use Rattle.rules.specs.Decomposition.{Run, run}
 use Rattle.rules.specs.Lines.{ascii, line, numberLines}
 use Rattle.rules.specs.Questions.{Valid}
 use Rattle.rules.specs.ResultText.{verdictLine, resultKeys, resultNumbers, maskLine, maskLines, resultText}
-use Rattle.lines.proofs.LineSizes.{number-length, more-length}
+use Rattle.line_writer.proofs.LineSizes.{number-length, more-length}
 use Rattle.theory.proofs.Results.{ResultBounds, run-bounds}
 use Rattle.result_writer.proofs.ResultLines.{result-size}
 

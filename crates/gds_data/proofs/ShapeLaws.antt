@@ -11,9 +11,9 @@ use borrow.Author.Tests.{eq-eqb, ne-eqb}
 use Rattle.rules.specs.Lines.{isDigit, allDigits, isNumeral, value}
 use Rattle.rules.specs.Stream.{unfilled}
 use Rattle.rules.proofs.Tests.{by-test, both, clash}
-use Rattle.lines.specs.declared.numerals.Numeral.{Numeral}
-use Rattle.lines.specs.ReadLines.{cap, digitsIn, digitsOf, pickNumeral, numeralOf}
-use Rattle.lines.proofs.Parts.{numeral-digits}
+use Rattle.numerals.specs.declared.Numeral.{Numeral}
+use Rattle.numerals.specs.Numerals.{cap, digitsIn, digitsOf, pickNumeral, numeralOf}
+use Rattle.numerals.proofs.Digits.{numeral-digits}
 use Rattle.gds_data.specs.declared.shape.Shape.{Shape}
 use Rattle.gds_data.specs.Shapes.{pickShape}
 

@@ -4,7 +4,7 @@ use mathlib.Core.List.{List}
 use Prim.Native.Nat.{ℕ, min}
 use Rattle.rules.specs.Lines.{isNumeral, value}
 use Rattle.rules.specs.Stream.{unfilled}
-use Rattle.lines.specs.ReadLines.{cap}
+use Rattle.numerals.specs.Numerals.{cap}
 use Rattle.gds_data.specs.declared.shape.Shape.{Shape}
 
 abbrev pub pickShape : Bool → ℕ → Shape

@@ -5,10 +5,10 @@ ghost use Prim.Native.Nat.{_≤_, min};
 ghost use lib.ListN.{length, take};
 ghost use Rattle.rules.specs.Lines.{isNumeral, value};
 ghost use Rattle.rules.specs.Stream.{unfilled};
-ghost use Rattle.lines.specs.ReadLines.{cap};
+ghost use Rattle.numerals.specs.Numerals.{cap};
 ghost use Rattle.gds_data.specs.Shapes.{shapeOf};
-use lines::Numeral;
-use lines::read_numeral;
+use numerals::Numeral;
+use numerals::read_numeral;
 
 // A shape number, up to the cap, or bytes that state none.
 pub enum Shape {

@@ -15,8 +15,8 @@ use Rattle.rules.specs.Questions.{judgePiece}
 use Rattle.rules.specs.Stream.{word32, signed32, unfilled, Element, elementFrom, negative, magnitude, anyNegative, pieceOf, judgeElement}
 use Rattle.rules.proofs.Ranges.{piece-facts, piece-ranges}
 use Rattle.rules.proofs.Tests.{by-test, clash, or-false}
-use Rattle.lines.specs.ReadLines.{cap}
-use Rattle.lines.proofs.Cap.{cap-range, cap-same}
+use Rattle.numerals.specs.Numerals.{cap}
+use Rattle.numerals.proofs.Cap.{cap-range, cap-same}
 use Rattle.gds_data.specs.Rectangles.{cornerPiece}
 use Rattle.gds_elements.specs.Elements.{Alike}
 

@@ -11,7 +11,7 @@ use Rattle.rules.specs.declared.refusal.Place.{Place}
 use Rattle.rules.specs.Lines.{value}
 use Rattle.rules.specs.Questions.{done, refused, andThen}
 use Rattle.rules.specs.Stream.{unfilled, xy, propvalue, endel, recordOf, readRecord, passRecords, elementFrom, readProperty, readElement}
-use Rattle.lines.specs.ReadLines.{cap}
+use Rattle.numerals.specs.Numerals.{cap}
 use Rattle.gds_records.specs.declared.kinds.Kind.{Kind}
 use Rattle.gds_records.specs.Kinds.{duesFrom}
 use Rattle.gds_records.specs.Records.{Whole, Passed}

@@ -13,7 +13,7 @@ use Rattle.rules.specs.Lines.{value}
 use Rattle.rules.specs.Settings.{pieceInRange, unset, noPiece, pieceAt}
 use Rattle.rules.specs.Questions.{Outcome, done, refused, andThen, judgePiece}
 use Rattle.rules.specs.Stream.{unfilled, xy, propvalue, endel, RecordRead, readRecord, passRecords, Element, ElementRead, readProperty, elementFrom, ElementsRead, pieceOf, noElement, judgeElement}
-use Rattle.lines.specs.ReadLines.{cap}
+use Rattle.numerals.specs.Numerals.{cap}
 use Rattle.gds_elements.specs.declared.elements.Property.{Property}
 use Rattle.gds_elements.specs.declared.elements.ElementAnswer.{ElementAnswer}
 use Rattle.gds_elements.specs.declared.elements.Elements.{Elements}

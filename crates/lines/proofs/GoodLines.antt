@@ -11,7 +11,8 @@ use lib.Seq.{drop-at}
 use Rattle.rules.specs.Lines.{line, NumbersRead, lineOf}
 use Rattle.rules.proofs.Tests.{clash}
 use Rattle.lines.specs.declared.read.Line.{Line}
-use Rattle.lines.specs.ReadLines.{cap, capped, lineRead}
+use Rattle.numerals.specs.Numerals.{cap}
+use Rattle.lines.specs.ReadLines.{capped, lineRead}
 use Rattle.lines.proofs.Written.{line-written}
 
 pub record GoodLine (text key : List ℕ) (count : ℕ) (r : Line) : Type 0 where

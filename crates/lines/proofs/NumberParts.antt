@@ -11,9 +11,10 @@ use lib.ListN.{length, getD, take, drop, set, replicate, length-drop, length-set
 use lib.Seq.{take-all, take-suc-set, length-take-le, append-snoc, drop-cons, drop-drop, drop-set-lt}
 use borrow.Author.Tests.{eq-eqb, ne-eqb}
 use Rattle.rules.specs.Lines.{comma, isNumeral, value, partsOf, numbersOf}
-use Rattle.lines.specs.declared.numerals.Numeral.{Numeral}
-use Rattle.lines.specs.ReadLines.{cap, capped, digitsIn, digitsOf, numeralOf, oneLonger, nextNumeral, inFive, noNumbers, numbersRead}
-use Rattle.lines.proofs.Digits.{digits-within}
+use Rattle.numerals.specs.declared.Numeral.{Numeral}
+use Rattle.numerals.specs.Numerals.{cap, digitsIn, digitsOf, numeralOf}
+use Rattle.lines.specs.ReadLines.{capped, oneLonger, nextNumeral, inFive, noNumbers, numbersRead}
+use Rattle.numerals.proofs.Digits.{digits-within}
 use Rattle.lines.proofs.Parts.{consNumber, afterNumeral, numbers-first}
 
 -- a part of a text up to its end

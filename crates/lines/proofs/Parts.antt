@@ -1,5 +1,5 @@
 -- The numbers of a line, read one after the other: a numeral, then either the end, or a comma and the next. Assumes nothing.
-use mathlib.Core.Bool.{Bool, true, false, not}
+use mathlib.Core.Bool.{Bool, true, false}
 use mathlib.Core.List.{List, [], _∷_, _++_, append-nil}
 use mathlib.Core.Option.{Option, none, some}
 use mathlib.Core.Path.{_≡_, refl, sym, ap, _∙_}
@@ -9,11 +9,11 @@ use lib.Dec.{eqb}
 use lib.ListN.{length, drop, take-append-drop, length-append}
 use lib.Seq.{getD-append-seam}
 use borrow.Author.Tests.{ne-eqb}
-use Rattle.rules.specs.Lines.{comma, digit0, isDigit, allDigits, isNumeral, value, partsOf, numbersOf}
-use Rattle.lines.specs.ReadLines.{digitsIn, digitsOf}
+use Rattle.rules.specs.Lines.{comma, isDigit, allDigits, isNumeral, value, partsOf, numbersOf}
+use Rattle.numerals.specs.Numerals.{digitsIn, digitsOf}
 use Rattle.rules.proofs.Tests.{both}
-use Rattle.lines.proofs.Decimal.{digit-low}
-use Rattle.lines.proofs.Digits.{all-digits, digit-at}
+use Rattle.numerals.proofs.Decimal.{digit-low}
+use Rattle.numerals.proofs.Digits.{all-digits, digit-at, numeral-digits}
 
 -- numbers in front of others
 abbrev pub consNumber : ℕ → Option (List ℕ) → Option (List ℕ)
@@ -65,12 +65,6 @@ numbers-cons more part parts = go (isNumeral part) refl (numbersOf more parts) r
     go true e (some ns) eo = rw (e, numbersOf) (rw eo)
 
 -- ---- Numerals
-
-pub numeral-digits : (ds : List ℕ) → isNumeral ds ≡ true → allDigits ds ≡ true
-unfolding isNumeral allDigits
-numeral-digits [] h = refl
-numeral-digits (b ∷ []) h = rw h
-numeral-digits (b ∷ c ∷ ds) h = both (not (eqb b digit0)) (allDigits (b ∷ c ∷ ds)) h .1
 
 -- a byte that is no digit makes no numeral
 no-numeral : (ds : List ℕ) (b : ℕ) (s : List ℕ) → isDigit b ≡ false → isNumeral (ds ++ (b ∷ s)) ≡ false

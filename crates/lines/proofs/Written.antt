@@ -13,8 +13,9 @@ use lib.ListN.{length}
 use borrow.Author.Tests.{eqb-true, eq-eqb, ne-eqb, not-true}
 use Rattle.rules.specs.Lines.{newline, comma, decimal, commaList, line, FirstLine, ended, unended, firstLine, afterKey, isDigit, allDigits, isNumeral, value, inFront, partsOf, numbersOf, lineNumbers, NumbersRead, lineOf}
 use Rattle.rules.proofs.Tests.{both}
-use Rattle.lines.proofs.Decimal.{digit-low, read-written, written-numeral, written-read}
-use Rattle.lines.proofs.Parts.{consNumber, numeral-digits, parts-digits, numbers-cons}
+use Rattle.numerals.proofs.Decimal.{digit-low, read-written, written-numeral, written-read}
+use Rattle.numerals.proofs.Digits.{numeral-digits}
+use Rattle.lines.proofs.Parts.{consNumber, parts-digits, numbers-cons}
 
 -- ---- The first line
 

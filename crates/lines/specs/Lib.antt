@@ -1,2 +1,1 @@
 pub mod ReadLines
-pub mod Writing

@@ -1,40 +1,21 @@
--- What the readers of numerals and lines hand back, by the definitions of the rules. Numbers are read up to the cap.
+-- What the reader of lines hands back, by the definitions of the rules. Numbers are read up to the cap.
 use mathlib.Core.Bool.{Bool, true, false}
 use mathlib.Core.List.{List, [], _∷_, _++_, map}
 use mathlib.Core.Option.{Option, none, some}
-use Prim.Native.Nat.{ℕ, suc, _+_, _-_, min}
+use Prim.Native.Nat.{ℕ, _+_, _-_, min}
 use lib.Dec.{eqb}
 use lib.ListN.{length, take, drop, replicate}
-use Rattle.rules.specs.Lines.{comma, isDigit, isNumeral, value, FirstLine, ended, unended, NumbersRead}
-use Rattle.lines.specs.declared.numerals.Numeral.{Numeral}
+use Rattle.rules.specs.Lines.{comma, FirstLine, ended, unended, NumbersRead}
+use Rattle.numerals.specs.declared.Numeral.{Numeral}
+use Rattle.numerals.specs.Numerals.{cap, numeralOf}
 use Rattle.lines.specs.declared.read.LineEnd.{LineEnd}
 use Rattle.lines.specs.declared.read.Numbers.{Numbers}
 use Rattle.lines.specs.declared.read.Line.{Line}
 
--- a value above this is read as this
-abbrev pub cap : ℕ
-cap = 4_294_967_295
+-- ---- Numbers
 
 abbrev pub capped : List ℕ → List ℕ
 capped ns = map (λ n. min n cap) ns
-
--- ---- Numerals
-
--- how many digits a text starts with
-unfoldable pub digitsIn : List ℕ → ℕ
-digitsIn [] = 0
-digitsIn (b ∷ bs) = elim (isDigit b) [ true ↦ suc (digitsIn bs) | false ↦ 0 ]
-
--- the digits that a text starts with
-abbrev pub digitsOf : List ℕ → List ℕ
-digitsOf text = take (digitsIn text) text
-
-abbrev pub pickNumeral : Bool → Numeral → Numeral
-pickNumeral true n = n
-pickNumeral false n = Numeral.Bad
-
-unfoldable pub numeralOf : List ℕ → Numeral
-numeralOf text = pickNumeral (isNumeral (digitsOf text)) (Numeral.Number (min (value (digitsOf text)) cap) (digitsIn text))
 
 -- a comma and a numeral, which is one byte longer with its comma
 abbrev pub oneLonger : Numeral → Numeral

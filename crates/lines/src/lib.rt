@@ -1,13 +1,6 @@
-// Decimal numbers, and lines with a key and numbers: read from a part of a text, and written into a lent buffer.
-// The readers and writers of the two texts stand on this crate.
-mod numerals;
+// Lines with a key and numbers, read from a part of a text (RULES 9). The readers of layer texts and of mask files stand on this crate, and
+// those of streams on its laws.
 mod read;
-mod write;
 
-pub use numerals::Numeral;
-pub use numerals::read_numeral;
 pub use read::Line;
 pub use read::read_line;
-pub use write::write_bytes;
-pub use write::write_line;
-pub use write::write_number_line;

@@ -5,8 +5,8 @@ ghost use Prim.Native.Nat.{_≤_};
 ghost use lib.ListN.{length, drop};
 ghost use Rattle.rules.specs.Lines.{firstLine, afterKey, partsOf, numbersOf, lineNumbers, lineOf};
 ghost use Rattle.lines.specs.ReadLines.{lineSplit, keyed, nextNumeral, noNumbers, numbersRead, noLine, lineRead};
-use crate::numerals::Numeral;
-use crate::numerals::read_numeral;
+use numerals::Numeral;
+use numerals::read_numeral;
 
 // How many bytes the text's first line has before its byte 10, or that there is no such byte.
 pub enum LineEnd {

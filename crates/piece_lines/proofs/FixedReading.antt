@@ -20,7 +20,8 @@ use Rattle.rules.specs.Settings.{noPiece, pieceAt}
 use Rattle.rules.specs.Questions.{Outcome, done, FixedRead, readFixed, withFixed, fixAt, readAllFixed}
 use Rattle.rules.proofs.Tests.{by-test, both}
 use Rattle.lines.specs.declared.read.Line.{Line}
-use Rattle.lines.specs.ReadLines.{cap, lineRead}
+use Rattle.numerals.specs.Numerals.{cap}
+use Rattle.lines.specs.ReadLines.{lineRead}
 use Rattle.lines.proofs.GoodLines.{GoodLine, bad-line, good-line}
 use Rattle.text_theory.proofs.WrittenLines.{line-none, line-some}
 use Rattle.text_theory.proofs.FixedLines.{OneFixed, fixed-written, goes-on, stops, none-left}

@@ -7,8 +7,8 @@ use lib.ListN.{length, getD, take, length-append}
 use Rattle.rules.specs.Decomposition.{Run}
 use Rattle.rules.specs.Lines.{numberLines}
 use Rattle.rules.specs.ResultText.{verdictLine, resultKeys, resultNumbers, maskLine, maskLines, resultText}
-use Rattle.lines.specs.Writing.{laid}
-use Rattle.lines.proofs.NumberLines.{laid-next, laid-room}
+use Rattle.line_writer.specs.Writing.{laid}
+use Rattle.line_writer.proofs.NumberLines.{laid-next, laid-room}
 
 -- ---- Masks
 

@@ -8,9 +8,9 @@ ghost use Rattle.rules.specs.Calls.{bufferAfter};
 ghost use Rattle.rules.specs.Lines.{line, numberLines};
 ghost use Rattle.rules.specs.Questions.{done};
 ghost use Rattle.rules.specs.ResultText.{verdictLine, resultKeys, maskLines, resultText};
-ghost use Rattle.lines.specs.Writing.{Put};
-use lines::write_bytes;
-use lines::write_number_line;
+ghost use Rattle.line_writer.specs.Writing.{Put};
+use line_writer::write_bytes;
+use line_writer::write_number_line;
 use rules::Decomposition;
 use rules::Verdict;
 

@@ -14,9 +14,10 @@ use Rattle.rules.specs.Lines.{ascii, line, lineOf}
 use Rattle.rules.specs.ResultText.{maskLine, maskLines}
 use Rattle.rules.proofs.Tests.{by-test, lt-or-ge}
 use Rattle.lines.specs.declared.read.Line.{Line}
-use Rattle.lines.specs.ReadLines.{cap, lineRead}
+use Rattle.numerals.specs.Numerals.{cap}
+use Rattle.lines.specs.ReadLines.{lineRead}
 use Rattle.lines.proofs.GoodLines.{bad-line, good-line}
-use Rattle.lines.proofs.LineSizes.{line-length}
+use Rattle.line_writer.proofs.LineSizes.{line-length}
 use Rattle.lines.proofs.NumberParts.{part-from}
 use Rattle.lines.proofs.Written.{line-written}
 use Rattle.score.specs.declared.masks.MaskLine.{MaskLine}

@@ -16,8 +16,9 @@ use Rattle.rules.specs.LayerText.{NumberLine, headerLines}
 use Rattle.rules.specs.Settings.{within}
 use Rattle.rules.specs.Questions.{Outcome, done, refused, andThen, readNumber, readNumbers, settingsFrom, headerFrom, readHeader}
 use Rattle.lines.specs.declared.read.Line.{Line}
-use Rattle.lines.specs.ReadLines.{cap, lineRead}
-use Rattle.lines.proofs.Cap.{cap-range, cap-same}
+use Rattle.numerals.specs.Numerals.{cap}
+use Rattle.lines.specs.ReadLines.{lineRead}
+use Rattle.numerals.proofs.Cap.{cap-range, cap-same}
 use Rattle.lines.proofs.GoodLines.{GoodLine, bad-line, good-line}
 use Rattle.text_theory.proofs.WrittenLines.{line-none, line-some}
 use Rattle.text.specs.declared.header.NumberAnswer.{NumberAnswer}

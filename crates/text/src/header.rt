@@ -4,7 +4,7 @@ ghost use Prim.Native.Nat.{_<_, _+_};
 ghost use lib.ListN.{getD};
 ghost use Rattle.rules.specs.Questions.{settingsFrom};
 ghost use Rattle.rules.specs.Settings.{within};
-ghost use Rattle.lines.specs.ReadLines.{cap};
+ghost use Rattle.numerals.specs.Numerals.{cap};
 ghost use Rattle.text.specs.declared.header.HeaderAnswer.{HeaderAnswer};
 ghost use Rattle.text.specs.Header.{headerLine, NumberFound, HeaderFound};
 use lines::read_line;

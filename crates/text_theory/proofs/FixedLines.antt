@@ -18,7 +18,7 @@ use Rattle.rules.specs.Questions.{done, refused, ask, readLine, FixedRead, read
 use Rattle.rules.proofs.Outcomes.{then-with, ask-yes}
 use Rattle.rules.proofs.Tests.{by-test, both}
 use Rattle.rules.proofs.Unfixed.{unfixed}
-use Rattle.lines.proofs.LineSizes.{line-length}
+use Rattle.line_writer.proofs.LineSizes.{line-length}
 use Rattle.lines.proofs.Written.{oneLine, line-read}
 use Rattle.text_theory.proofs.WrittenLines.{line-some, read-line}
 

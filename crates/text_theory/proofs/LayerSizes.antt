@@ -16,8 +16,8 @@ use Rattle.rules.specs.Questions.{Valid}
 use Rattle.rules.proofs.Ranges.{settings-facts, piece-facts, within-facts}
 use Rattle.rules.proofs.Tests.{by-test}
 use Rattle.rules.proofs.Validity.{Sound, valid-sound}
-use Rattle.lines.proofs.Decimal.{decimal-length}
-use Rattle.lines.proofs.LineSizes.{comma-one, comma-length, line-length, number-length, more-length}
+use Rattle.numerals.proofs.Decimal.{decimal-length}
+use Rattle.line_writer.proofs.LineSizes.{comma-one, comma-length, line-length, number-length, more-length}
 
 piece-length : (p : Piece) → pieceInRange p ≡ true → length (pieceLine p) ≤ 42
 unfolding ascii

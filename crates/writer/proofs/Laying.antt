@@ -16,8 +16,8 @@ use Rattle.rules.specs.Questions.{done, refused, judgeLayer, Valid, pieceFrom}
 use Rattle.rules.specs.Settings.{noPiece, unset}
 use Rattle.layout.specs.Flat.{pieceOf, piecesOf}
 use Rattle.layout.proofs.PieceLaws.{pieces-length, pieces-first, piece-of}
-use Rattle.lines.specs.Writing.{laid}
-use Rattle.lines.proofs.NumberLines.{laid-next, laid-room}
+use Rattle.line_writer.specs.Writing.{laid}
+use Rattle.line_writer.proofs.NumberLines.{laid-next, laid-room}
 use Rattle.text_theory.proofs.WrittenPieces.{five}
 
 -- ---- Pieces

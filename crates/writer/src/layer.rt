@@ -10,10 +10,10 @@ ghost use Rattle.rules.specs.LayerText.{headerKeys, pieceLines, fixedLine, fixe
 ghost use Rattle.rules.specs.Questions.{Valid, withFixed};
 ghost use Rattle.rules.specs.Settings.{noPiece};
 ghost use Rattle.layout.specs.Flat.{piecesOf, recordsOf};
-ghost use Rattle.lines.specs.Writing.{Put};
+ghost use Rattle.line_writer.specs.Writing.{Put};
 use layout::Judgement;
-use lines::write_line;
-use lines::write_number_line;
+use line_writer::write_line;
+use line_writer::write_number_line;
 use rules::Piece;
 use rules::Place;
 use rules::Refusal;

@@ -7,7 +7,7 @@ use Prim.Native.Nat.{ℕ, _+_, _≤_}
 use lib.ListN.{length, getD}
 use Rattle.rules.specs.Lines.{ascii, line}
 use Rattle.rules.specs.ResultText.{resultKeys}
-use Rattle.lines.specs.Writing.{Put}
+use Rattle.line_writer.specs.Writing.{Put}
 use Rattle.result_writer.proofs.write_count.Statement.{statement}
 use Rattle.result_writer.proofs.write_count.Tie as tie
 

@@ -7,9 +7,9 @@ use lib.ListN.{length, take}
 use lib.Seq.{take-all}
 use Rattle.rules.specs.Lines.{numberLines}
 use Rattle.rules.specs.ResultText.{resultKeys}
-use Rattle.lines.specs.Writing.{Put}
-use Rattle.lines.proofs.NumberLines.{lines-next, lines-room}
-use Rattle.lines.proofs.Puts.{put-none, put-as, put-on}
+use Rattle.line_writer.specs.Writing.{Put}
+use Rattle.line_writer.proofs.NumberLines.{lines-next, lines-room}
+use Rattle.line_writer.proofs.Puts.{put-none, put-as, put-on}
 use Rattle.result_writer.proofs.write_counts.Statement.{statement}
 use Rattle.result_writer.proofs.write_counts.Tie as tie
 

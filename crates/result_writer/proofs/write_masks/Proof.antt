@@ -7,8 +7,8 @@ use lib.ListN.{length, take}
 use lib.Seq.{take-all}
 use Rattle.rules.specs.Lines.{ascii}
 use Rattle.rules.specs.ResultText.{maskLines}
-use Rattle.lines.specs.Writing.{Put}
-use Rattle.lines.proofs.Puts.{put-none, put-as, put-on}
+use Rattle.line_writer.specs.Writing.{Put}
+use Rattle.line_writer.proofs.Puts.{put-none, put-as, put-on}
 use Rattle.result_writer.proofs.ResultLines.{masks-next, masks-room}
 use Rattle.result_writer.proofs.write_masks.Statement.{statement}
 use Rattle.result_writer.proofs.write_masks.Tie as tie

@@ -4,8 +4,8 @@ use native.Mathlib.Omega.{arith}
 use mathlib.Core.Path.{_≡_, refl, _∙_}
 use Rattle.rules.specs.Answers.{runOf}
 use Rattle.rules.specs.ResultText.{resultText}
-use Rattle.lines.specs.Writing.{Put}
-use Rattle.lines.proofs.Puts.{put-on, put-front}
+use Rattle.line_writer.specs.Writing.{Put}
+use Rattle.line_writer.proofs.Puts.{put-on, put-front}
 use Rattle.result_writer.proofs.ResultLines.{result-size}
 use Rattle.result_writer.proofs.write_result.Statement.{statement}
 use Rattle.result_writer.proofs.write_result.Tie as tie

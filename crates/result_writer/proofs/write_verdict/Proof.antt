@@ -6,7 +6,7 @@ use lib.ListN.{length}
 use Rattle.rules.specs.declared.answers.Verdict.{Verdict}
 use Rattle.rules.specs.Lines.{ascii}
 use Rattle.rules.specs.ResultText.{verdictLine}
-use Rattle.lines.proofs.Puts.{put-as}
+use Rattle.line_writer.proofs.Puts.{put-as}
 use Rattle.result_writer.proofs.write_verdict.Statement.{statement}
 use Rattle.result_writer.proofs.write_verdict.Tie as tie
 

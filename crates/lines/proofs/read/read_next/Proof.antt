@@ -5,8 +5,9 @@ use mathlib.Core.List.{List}
 use mathlib.Core.Path.{_≡_, sym, ap, _∙_}
 use Prim.Native.Nat.{ℕ}
 use lib.ListN.{drop, length-drop}
-use Rattle.lines.specs.declared.numerals.Numeral.{Numeral}
-use Rattle.lines.specs.ReadLines.{numeralOf, oneLonger, nextNumeral}
+use Rattle.numerals.specs.declared.Numeral.{Numeral}
+use Rattle.numerals.specs.Numerals.{numeralOf}
+use Rattle.lines.specs.ReadLines.{oneLonger, nextNumeral}
 use Rattle.lines.proofs.NumberParts.{part-from, numeral-inside, next-empty, next-other, next-comma}
 use Rattle.lines.proofs.read.read_next.Statement.{statement}
 use Rattle.lines.proofs.read.read_next.Tie as tie

@@ -7,8 +7,8 @@ use lib.ListN.{length}
 use Rattle.rules.specs.Basics.{upFrom}
 use Rattle.rules.specs.LayerText.{fixedLines}
 use Rattle.layout.specs.Flat.{recordsOf}
-use Rattle.lines.specs.Writing.{Put}
-use Rattle.lines.proofs.Puts.{put-none, put-as, put-on}
+use Rattle.line_writer.specs.Writing.{Put}
+use Rattle.line_writer.proofs.Puts.{put-none, put-as, put-on}
 use Rattle.writer.proofs.FlatTexts.{linesTo, fixed-next, fixed-room}
 use Rattle.writer.proofs.layer.write_fixed.Statement.{statement}
 use Rattle.writer.proofs.layer.write_fixed.Tie as tie

@@ -6,7 +6,7 @@ use lib.ListN.{length}
 use Rattle.rules.specs.Lines.{ascii}
 use Rattle.rules.specs.Questions.{withFixed}
 use Rattle.rules.specs.Settings.{noPiece}
-use Rattle.lines.proofs.Puts.{put-none, put-as}
+use Rattle.line_writer.proofs.Puts.{put-none, put-as}
 use Rattle.text_theory.proofs.FixedLines.{no-line, a-line}
 use Rattle.writer.proofs.layer.write_fixed_line.Statement.{statement}
 use Rattle.writer.proofs.layer.write_fixed_line.Tie as tie

@@ -3,7 +3,7 @@ use borrow.Author.Needs.{needs}
 use mathlib.Core.Path.{refl, sym, ap, _∙_}
 use Rattle.rules.specs.Questions.{done}
 use Rattle.layout.specs.Judged.{judgement}
-use Rattle.lines.proofs.Puts.{put-front}
+use Rattle.line_writer.proofs.Puts.{put-front}
 use Rattle.text_theory.proofs.LayerSizes.{layer-room}
 use Rattle.writer.proofs.Laying.{small-writes, refused-writes, valid-writes}
 use Rattle.writer.proofs.layer.write_layer.Statement.{statement}

@@ -2,7 +2,7 @@
 use borrow.Author.Needs.{needs}
 use native.Mathlib.Omega.{arith}
 use mathlib.Core.Path.{refl}
-use Rattle.lines.proofs.Puts.{put-as, put-on}
+use Rattle.line_writer.proofs.Puts.{put-as, put-on}
 use Rattle.writer.proofs.FlatTexts.{flat-few, flat-text, flat-size}
 use Rattle.writer.proofs.layer.write_layer_text.Statement.{statement}
 use Rattle.writer.proofs.layer.write_layer_text.Tie as tie

@@ -9,8 +9,8 @@ use Rattle.rules.specs.Lines.{ascii, line}
 use Rattle.rules.specs.LayerText.{pieceLines}
 use Rattle.layout.specs.Flat.{piecesOf}
 use Rattle.rules.specs.Basics.{upFrom}
-use Rattle.lines.specs.Writing.{Put}
-use Rattle.lines.proofs.Puts.{put-none, put-as, put-on}
+use Rattle.line_writer.specs.Writing.{Put}
+use Rattle.line_writer.proofs.Puts.{put-none, put-as, put-on}
 use Rattle.writer.proofs.Laying.{five-there, five-part, pieces-next, pieces-room}
 use Rattle.writer.proofs.layer.write_pieces.Statement.{statement}
 use Rattle.writer.proofs.layer.write_pieces.Tie as tie

@@ -7,7 +7,7 @@ use Prim.Native.Nat.{ℕ, _+_, _≤_}
 use lib.ListN.{length, getD}
 use Rattle.rules.specs.Lines.{ascii, line}
 use Rattle.rules.specs.LayerText.{headerKeys}
-use Rattle.lines.specs.Writing.{Put}
+use Rattle.line_writer.specs.Writing.{Put}
 use Rattle.writer.proofs.layer.write_setting.Statement.{statement}
 use Rattle.writer.proofs.layer.write_setting.Tie as tie
 
