@@ -10,6 +10,8 @@
 //! - `push`: every place has these sums at all times, and a mask that is tried is added to those of the later neighbours, and taken
 //!   off again afterwards.
 
+mod small_graphs;
+
 use std::env;
 use std::io::{self, BufWriter, Read, Write};
 use std::ops::Range;
@@ -340,6 +342,35 @@ fn has_fixed(fixed: &[u8]) -> bool {
     fixed.iter().any(|&mask| mask != NOT_FIXED)
 }
 
+/// A cost that no assignment has.
+const NO_COST: u32 = u32::MAX;
+
+/// The cost at which the search of a component ends, where the library has it: on three masks, with at most five places, none of them fixed,
+/// no stitch edge, and no two conflict edges between the same places.
+fn final_cost(settings: &Settings, earlier: &Neighbours, fixed: &[u8]) -> u32 {
+    if settings.masks != small_graphs::MASKS
+        || earlier.size() > small_graphs::PLACES
+        || has_fixed(fixed)
+    {
+        return NO_COST;
+    }
+    let mut index = 0;
+    for p in 0..earlier.size() {
+        let (conflicts, stitches) = earlier.of(p);
+        for &q in conflicts {
+            let bit = small_graphs::pair_bit(q as usize, p);
+            if index & bit != 0 {
+                return NO_COST;
+            }
+            index |= bit;
+        }
+        if !stitches.is_empty() {
+            return NO_COST;
+        }
+    }
+    settings.weight * u32::from(small_graphs::ENTRIES[index])
+}
+
 struct Outcome {
     incumbent: Masks,
     left: u64,
@@ -351,6 +382,8 @@ struct ListState {
     incumbent: Masks,
     cost: u32,
     stopped: bool,
+    /// The steps that were left when the library ended the search.
+    left_at_end: Option<u64>,
 }
 
 struct ListSearch<'a> {
@@ -359,6 +392,7 @@ struct ListSearch<'a> {
     size: usize,
     masks: usize,
     weight: u32,
+    final_cost: u32,
 }
 
 impl ListSearch<'_> {
@@ -375,6 +409,11 @@ impl ListSearch<'_> {
         if p == self.size {
             state.incumbent = state.partial;
             state.cost = cost;
+            // Without a step left every place returns, so that no mask has to ask whether this is the end.
+            if cost == self.final_cost {
+                state.left_at_end = Some(left);
+                return 0;
+            }
             return left;
         }
         let row = added_row(self.earlier, self.weight, &state.partial, p);
@@ -405,6 +444,7 @@ fn search_lists(
     fixed: &[u8],
     first: Masks,
     cost: u32,
+    final_cost: u32,
     left: u64,
 ) -> Outcome {
     let search = ListSearch {
@@ -413,12 +453,14 @@ fn search_lists(
         size: earlier.size(),
         masks: settings.masks.min(MASKS_GREATEST),
         weight: settings.weight,
+        final_cost,
     };
     let mut state = ListState {
         partial: [0; PIECES_GREATEST],
         incumbent: first,
         cost,
         stopped: false,
+        left_at_end: None,
     };
     let left = if has_fixed(fixed) {
         search.place::<true>(&mut state, 0, 0, 0, left)
@@ -427,8 +469,8 @@ fn search_lists(
     };
     Outcome {
         incumbent: state.incumbent,
-        left,
-        stopped: state.stopped,
+        left: state.left_at_end.unwrap_or(left),
+        stopped: state.stopped && state.left_at_end.is_none(),
     }
 }
 
@@ -438,6 +480,7 @@ struct PushSearch<'a> {
     size: usize,
     masks: usize,
     weight: u32,
+    final_cost: u32,
     /// What each mask adds at each place.
     rows: [Row; PIECES_GREATEST],
     partial: Masks,
@@ -445,6 +488,7 @@ struct PushSearch<'a> {
     cost: u32,
     left: u64,
     stopped: bool,
+    left_at_end: Option<u64>,
 }
 
 impl PushSearch<'_> {
@@ -475,6 +519,10 @@ impl PushSearch<'_> {
         if p == self.size {
             self.incumbent = self.partial;
             self.cost = cost;
+            if cost == self.final_cost {
+                self.left_at_end = Some(self.left);
+                self.left = 0;
+            }
             return;
         }
         let tried = if FIXED {
@@ -506,6 +554,7 @@ fn search_push(
     fixed: &[u8],
     first: Masks,
     cost: u32,
+    final_cost: u32,
     left: u64,
 ) -> Outcome {
     let mut rows = [[0; MASKS_GREATEST]; PIECES_GREATEST];
@@ -518,12 +567,14 @@ fn search_push(
         size: later.size(),
         masks: settings.masks.min(MASKS_GREATEST),
         weight: settings.weight,
+        final_cost,
         rows,
         partial: [0; PIECES_GREATEST],
         incumbent: first,
         cost,
         left,
         stopped: false,
+        left_at_end: None,
     };
     if has_fixed(fixed) {
         search.place::<true>(0, 0, 0);
@@ -532,8 +583,8 @@ fn search_push(
     }
     Outcome {
         incumbent: search.incumbent,
-        left: search.left,
-        stopped: search.stopped,
+        left: search.left_at_end.unwrap_or(search.left),
+        stopped: search.stopped && search.left_at_end.is_none(),
     }
 }
 
@@ -553,11 +604,19 @@ fn search_component(
     let earlier = Neighbours::new(graph, members, |p, q| q < p);
     let fixed: Vec<u8> = members.iter().map(|&v| graph.fixed[v]).collect();
     let (first, cost) = first_assignment(settings, &earlier, &fixed);
+    let end = final_cost(settings, &earlier, &fixed);
+    if cost == end {
+        return Outcome {
+            incumbent: first,
+            left,
+            stopped: false,
+        };
+    }
     match form {
-        Form::Lists => search_lists(settings, &earlier, &fixed, first, cost, left),
+        Form::Lists => search_lists(settings, &earlier, &fixed, first, cost, end, left),
         Form::Push => {
             let later = Neighbours::new(graph, members, |p, q| p < q);
-            search_push(settings, &earlier, &later, &fixed, first, cost, left)
+            search_push(settings, &earlier, &later, &fixed, first, cost, end, left)
         }
     }
 }

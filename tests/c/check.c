@@ -337,7 +337,7 @@ static void check_all(const char *folder, const char *streams_folder, int few, i
     struct layer *layers = stored_layers(folder, ".layer", &count);
     struct layer *streams = all_streams(streams_folder, layers, count, &streams_count);
 
-    if (count < 150)
+    if (count < 300)
         fail("%lu stored layers", (unsigned long)count);
     if (!streams_only) {
         check_layers(&example, layers, count, few);

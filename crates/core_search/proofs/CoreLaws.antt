@@ -26,11 +26,11 @@ use Rattle.core_search.specs.Core.{searchOf, searchAllOf, Given, OneSear
 pub record CoreLeft (g : Graph) (fixed core numbers₀ result₀ numbers result : List ℕ) (left : ℕ) (rest : List ℕ) : Type 0 where
   pub given : Given fixed rest numbers left result
   pub same : searchAllOf g (fixedAt fixed) rest numbers left result ≡ searchAllOf g (fixedAt fixed) core numbers₀ (budgetIn numbers₀) result₀
-  pub constants : (i : ℕ) → 3 ≤ i → getD numbers i 0 ≡ getD numbers₀ i 0
+  pub constants : (i : ℕ) → 3 ≤ i → i ≤ 5 → getD numbers i 0 ≡ getD numbers₀ i 0
   pub size : length result ≡ length result₀
 
 pub core-all : {g : Graph} {fixed core numbers result : List ℕ} → Given fixed core numbers (budgetIn numbers) result → CoreLeft g fixed core numbers result numbers result (budgetIn numbers) core
-core-all given = record { given = given; same = refl; constants = λ i h. refl; size = refl }
+core-all given = record { given = given; same = refl; constants = λ i h l. refl; size = refl }
 
 module _ {g : Graph} {fixed core numbers₀ result₀ numbers result : List ℕ} {left : ℕ} {rest : List ℕ} (c : CoreLeft g fixed core numbers₀ result₀ numbers result left rest) where
   -- where the search stands
@@ -41,7 +41,7 @@ module _ {g : Graph} {fixed core numbers₀ result₀ numbers result : List ℕ}
   pub core-done : First (member rest) 512 → CoreSearched g (fixedAt fixed) core numbers₀ numbers result₀ result left
   unfolding componentsFor searchAll
   core-done first =
-      let budget : budgetIn numbers ≡ budgetIn numbers₀ = c .constants 5 (omega arith) in
+      let budget : budgetIn numbers ≡ budgetIn numbers₀ = c .constants 5 (omega arith) (omega arith) in
       let none : components g (membersOf rest) ≡ [] = ap (components g) (members-none rest first) in
       let ended : reached ≡ searchAllOf g (fixedAt fixed) core numbers₀ (budgetIn numbers₀) result₀
       = ap (λ (cs : List (List ℕ)). searchAll (masksIn numbers) (weightIn numbers) (budgetIn numbers) g (fixedAt fixed) cs reached) (sym none) ∙ c .same in
@@ -81,9 +81,9 @@ module _ {g : Graph} {fixed core numbers₀ result₀ numbers result : List ℕ}
       unfolding searchAll
       one-more =
           let s = searchOf g (fixedAt fixed) component numbers left in
-          let masks = one .constants 3 (omega arith) in
-          let weight = one .constants 4 (omega arith) in
-          let budget = one .constants 5 (omega arith) in
+          let masks = one .constants 3 (omega arith) (omega arith) in
+          let weight = one .constants 4 (omega arith) (omega arith) in
+          let budget = one .constants 5 (omega arith) (omega arith) in
           let next : searchAllOf g (fixedAt fixed) rest′ numbers′ left′ result′ ≡ searchAll (masksIn numbers) (weightIn numbers) (budgetIn numbers) g (fixedAt fixed) (membersOf component ∷ components g (membersOf rest′)) reached
           = rw (masks, weight, budget, one .steps, one .stopped, one .masks) in
           next ∙ ap (λ (cs : List (List ℕ)). searchAll (masksIn numbers) (weightIn numbers) (budgetIn numbers) g (fixedAt fixed) cs reached) (sym one-left)
@@ -97,16 +97,16 @@ module _ {g : Graph} {fixed core numbers₀ result₀ numbers result : List ℕ}
           let kept : length result′ ≡ length result = ap length (one .masks) ∙ put-length (membersOf component) (searchOf g (fixedAt fixed) component numbers left .incumbent) result in
           record {
             given = record {
-              some = omega (arith, c .given .some, one .constants 3 (omega arith));
-              masks = omega (arith, c .given .masks, one .constants 3 (omega arith));
-              weight = omega (arith, c .given .weight, one .constants 4 (omega arith));
+              some = omega (arith, c .given .some, one .constants 3 (omega arith) (omega arith));
+              masks = omega (arith, c .given .masks, one .constants 3 (omega arith) (omega arith));
+              weight = omega (arith, c .given .weight, one .constants 4 (omega arith) (omega arith));
               numbered = one .numbered;
-              afford = omega (arith, one .fewer, c .given .afford, one .constants 5 (omega arith));
+              afford = omega (arith, one .fewer, c .given .afford, one .constants 5 (omega arith) (omega arith));
               placed = λ u l m. omega (arith, c .given .placed u l (still u l m), kept);
               fixed-whole = c .given .fixed-whole;
-              fixed-low = λ u l m e. omega (arith, c .given .fixed-low u l (still u l m) e, one .constants 3 (omega arith));
+              fixed-low = λ u l m e. omega (arith, c .given .fixed-low u l (still u l m) e, one .constants 3 (omega arith) (omega arith));
             };
             same = one-more ∙ c .same;
-            constants = λ i h. one .constants i h ∙ c .constants i h;
+            constants = λ i h l. one .constants i h l ∙ c .constants i h l;
             size = kept ∙ c .size;
           }

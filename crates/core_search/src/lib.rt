@@ -1,8 +1,8 @@
-// The search of the core (RULES 5, 6 and 17): one component after the other, in the order of their lowest units, within one budget. Components
+// The search of the core (RULES 5, 6, 17 and 19): one component after the other, in the order of their lowest units, within one budget. Components
 // are found on the words of units; costs come from the words of pieces. The decomposition stands on this crate.
 //
 // The numbers of a search are those of `search`: at 0 the incumbent's cost, at 1 whether a step was due beyond the budget (1 if so), at 2 how many
-// places there are, at 3 the masks, at 4 the weight, at 5 the budget.
+// places there are, at 3 the masks, at 4 the weight, at 5 the budget, at 6 where the search ends, at 7 the steps left then.
 ghost use mathlib.Core.Path.{_≡_};
 ghost use lib.ListN.{length, set};
 ghost use Rattle.core_search.specs.Core.{Words, Given, OneSearched, CoreSearched};
@@ -10,12 +10,13 @@ ghost use Rattle.adjacency.specs.UnitGraph.{unitGraph, fixedAt};
 ghost use Rattle.units.specs.Merged.{Merged};
 ghost use Rattle.search.specs.Branch.{budgetIn};
 
-// Stores how many places there are.
-fn set_size(numbers: &mut [u64; 6], size: usize)
-    ensures { λ _. ⌜ now (numbers .exit) ≡ set (now (numbers .entry)) 2 size ⌝ }
+// Stores how many places there are, and where the search ends.
+fn pose(numbers: &mut [u64; 8], size: usize, end: u64)
+    ensures { λ _. ⌜ now (numbers .exit) ≡ set (set (now (numbers .entry)) 2 size) 6 end ⌝ }
 {
     let all: &mut [u64] = numbers;
     all[2] = size as u64;
+    all[6] = end;
 }
 
 // Searches one component, and puts its masks down at the units' numbers. `fixed` has the units' fixed masks. Answers how many of the `left`
@@ -32,7 +33,7 @@ fn search_one(
     starts: &mut [u32; 1025],
     list: &mut [u16; 131584],
     incumbent: &mut [u8; 512],
-    numbers: &mut [u64; 6],
+    numbers: &mut [u64; 8],
     left: u64,
     result: &mut [u8],
 ) -> u64
@@ -45,7 +46,8 @@ fn search_one(
     let size = places::list_members(component, order);
     places::local_fixed(order, size, fixed, local);
     places::lay_out(conflicts, stitches, units, n, order, size, starts, list);
-    set_size(numbers, size);
+    let end = early_end::library_end(starts, list, local, size, numbers[3], numbers[4]);
+    pose(numbers, size, end);
     let rest = search::search_component(starts, list, local, incumbent, numbers, left);
     places::put_masks(order, size, incumbent, result);
     rest
@@ -62,7 +64,7 @@ pub fn search_core(
     n: usize,
     fixed: &[u8; 512],
     core: &[u64; 8],
-    numbers: &mut [u64; 6],
+    numbers: &mut [u64; 8],
     result: &mut [u8],
 ) -> u64
     requires { ⌜ Words (now conflicts) (now stitches) (now units) n ⌝ }

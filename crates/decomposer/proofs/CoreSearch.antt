@@ -16,7 +16,7 @@ use Rattle.core_search.specs.Core.{Given, CoreSearched, searchAllOf}
 use Rattle.decomposer.specs.declared.stages.Searched.{Searched}
 use Rattle.decomposer.specs.Stages.{HasPlaces, HasFixed, searchOfCore, SearchedCore}
 
-module _ (s : Settings) {numbers : List ℕ} (start : numbers ≡ 0 ∷ 0 ∷ 0 ∷ s .masks ∷ s .weight ∷ s .budget ∷ []) where
+module _ (s : Settings) {numbers : List ℕ} (start : numbers ≡ 0 ∷ 0 ∷ 0 ∷ s .masks ∷ s .weight ∷ s .budget ∷ 0 ∷ 0 ∷ []) where
   pub core-given : settingsInRange s ≡ true → {fixed core masks : List ℕ} → HasPlaces core masks → HasFixed (s .masks) fixed core → Given fixed core numbers (budgetIn numbers) masks
   core-given inRange placed known =
       let facts = settings-facts s inRange in

@@ -28,8 +28,8 @@ fn clear(masks: &mut [u8])
 }
 
 // The numbers that a search starts with.
-fn numbers_of(settings: Settings) -> [u64; 6]
-    ensures { λ r. ⌜ r ≡ 0 ∷ 0 ∷ 0 ∷ settings .masks ∷ settings .weight ∷ settings .budget ∷ [] ⌝ }
+fn numbers_of(settings: Settings) -> [u64; 8]
+    ensures { λ r. ⌜ r ≡ 0 ∷ 0 ∷ 0 ∷ settings .masks ∷ settings .weight ∷ settings .budget ∷ 0 ∷ 0 ∷ [] ⌝ }
 {
     [
         0,
@@ -38,6 +38,8 @@ fn numbers_of(settings: Settings) -> [u64; 6]
         settings.masks as u64,
         settings.weight as u64,
         settings.budget as u64,
+        0,
+        0,
     ]
 }
 

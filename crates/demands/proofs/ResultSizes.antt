@@ -1,6 +1,6 @@
 -- How long a result text is at most: 13 bytes for the verdict, 65 for the four counts and 7 for each mask. So the result of every valid layer fits a
 -- buffer of 4,096 bytes, and its values fit the types of the answer. Assumes nothing.
-use mathlib.Core.List.{List, [], _∷_, _++_}
+use mathlib.Core.List.{List, [], _∷_}
 use mathlib.Core.Path.{_≡_, refl}
 use Prim.Native.Nat.{ℕ, suc, _+_, _*_, _≤_, _<_, _^_}
 use native.Mathlib.Omega.{arith}
@@ -9,7 +9,7 @@ use Rattle.rules.specs.declared.layer.Settings.{Settings}
 use Rattle.rules.specs.declared.layer.Piece.{Piece}
 use Rattle.rules.specs.declared.answers.Verdict.{Verdict}
 use Rattle.rules.specs.Decomposition.{Run, run}
-use Rattle.rules.specs.Lines.{ascii, line, numberLines}
+use Rattle.rules.specs.Lines.{ascii, numberLines}
 use Rattle.rules.specs.Questions.{Valid}
 use Rattle.rules.specs.ResultText.{verdictLine, resultKeys, resultNumbers, maskLine, maskLines, resultText}
 use Rattle.line_writer.proofs.LineSizes.{number-length, more-length}

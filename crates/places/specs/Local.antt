@@ -6,6 +6,7 @@ use Prim.Native.Nat.{ℕ, _+_, _-_, _*_, _≤_, _<_}
 use lib.Dec.{eqb}
 use lib.ListN.{length, getD}
 use Rattle.rules.specs.Basics.{given, sumTo}
+use Rattle.rules.specs.Edges.{Graph}
 
 -- where the conflict neighbours of place k begin, where its stitch neighbours do, and where they end
 abbrev pub conflictsAt : List ℕ → ℕ → ℕ
@@ -23,6 +24,17 @@ onMask list p m a b = sumTo (λ j. given (eqb (getD p (getD list (a + j) 0) 0) m
 
 abbrev pub offMask : List ℕ → List ℕ → ℕ → ℕ → ℕ → ℕ
 offMask list p m a b = sumTo (λ j. given (not (eqb (getD p (getD list (a + j) 0) 0) m)) 1) (b - a)
+
+-- how many entries of the list, from a up to b, are place u
+abbrev pub timesIn : List ℕ → ℕ → ℕ → ℕ → ℕ
+timesIn list u a b = sumTo (λ j. given (eqb u (getD list (a + j) 0)) 1) (b - a)
+
+-- the graph of the places: two have as many edges as the later one's list has the earlier one
+abbrev pub listGraph : List ℕ → List ℕ → Graph
+listGraph starts list = record {
+  conflicts = λ u v. timesIn list u (conflictsAt starts v) (stitchesAt starts v);
+  stitches = λ u v. timesIn list u (stitchesAt starts v) (endAt starts v);
+}
 
 -- what mask m adds at the next place after p
 unfoldable pub localAdded : ℕ → List ℕ → List ℕ → List ℕ → ℕ → ℕ

@@ -16,6 +16,7 @@ use Rattle.rules.specs.Score.{conflictsOf, stitchesOf, scoreOf, pairCost
 use Rattle.rules.specs.Peeling.{mayGo, peelFor}
 use Rattle.rules.specs.Components.{reachFor, componentsFor}
 use Rattle.rules.specs.Units.{partOf, edgesBetween, spread}
+use Rattle.rules.specs.Library.{leastTo, leastOver, leastConflicts, pairNumber, bitAt, valueOf, indexOf, served}
 use Rattle.rules.specs.Search.{added, totalAfter, cheapest, firstAfter, firstMask, different, candidates, candidatesIn, tryMasks, searchPlaces, completeMasks, completePlaces}
 use Rattle.rules.specs.Decomposition.{putMasks, searchAll, putBack, putBackAll, decompose, completeAll, complete, stepsInAll, Run, run}
 use Rattle.rules.specs.Lines.{ascii, digitsFor, commaList, line, numberLines, firstLine, afterKey, allDigits, isNumeral, valueAfter, partsOf, numbersOf, lineNumbers, lineOf}
@@ -104,7 +105,7 @@ pub record Cases : Type 0 where
   pub row-3 : decomposed (settingsOf 3 100) row ≡ done (result (2 ∷ 1 ∷ 0 ∷ []) 0 0 0 0 Verdict.Best)
   pub halves-2 : decomposed (settingsOf 2 100) halves ≡ done (result (0 ∷ 1 ∷ 1 ∷ 0 ∷ []) 0 1 1 11 Verdict.Best)
   pub atEnd-2 : decomposed (settingsOf 2 100) atEnd ≡ done (result (0 ∷ 1 ∷ 0 ∷ []) 0 0 0 0 Verdict.Best)
-  pub square-3 : decomposed (settingsOf 3 100) square ≡ done (result (0 ∷ 1 ∷ 2 ∷ 0 ∷ []) 1 0 10 9 Verdict.Best)
+  pub square-3 : decomposed (settingsOf 3 100) square ≡ done (result (0 ∷ 1 ∷ 2 ∷ 0 ∷ []) 1 0 10 0 Verdict.Best)
   pub square-4 : decomposed (settingsOf 4 100) square ≡ done (result (3 ∷ 2 ∷ 1 ∷ 0 ∷ []) 0 0 0 0 Verdict.Best)
   pub empty : decomposed (settingsOf 2 100) [] ≡ done (result [] 0 0 0 0 Verdict.Best)
   pub empty-at-0 : decomposed (settingsOf 2 0) [] ≡ done (result [] 0 0 0 0 Verdict.Best)
@@ -127,7 +128,7 @@ pub record Cases : Type 0 where
   pub stitches-paid : decomposed (settingsOf 2 1000) between ≡ done (result (0 ∷ 1 ∷ 1 ∷ 0 ∷ 0 ∷ 1 ∷ []) 0 2 2 29 Verdict.Best)
 
 pub cases : Cases
-unfolding sumTo sumPairs sumOf upFrom anyOf countOf keep find settingsInRange pieceInRange hasArea overlapX overlapY gapX gapY squaredGap conflictEdge contact stitchEdge tied edgeOf overlapping conflictsOf stitchesOf scoreOf pairCost mayGo peelFor reachFor componentsFor partOf edgesBetween spread added totalAfter cheapest firstAfter firstMask different candidates candidatesIn tryMasks searchPlaces completeMasks completePlaces putMasks searchAll putBack putBackAll decompose completeAll complete run ascii digitsFor commaList line numberLines firstLine afterKey allDigits isNumeral valueAfter partsOf numbersOf lineNumbers lineOf pieceLines fixedLines layerText maskLines resultText askEach judgePiece judgeRecord judgeOverlaps judgeFixed judgeRecords judgeLayer readLine readNumber readNumbers readHeader readPiece readPieces readFixed readAllFixed layerFrom readBody readLayer edgeBetween decomposeLayer decomposeText
+unfolding sumTo sumPairs sumOf upFrom anyOf countOf keep find settingsInRange pieceInRange hasArea overlapX overlapY gapX gapY squaredGap conflictEdge contact stitchEdge tied edgeOf overlapping conflictsOf stitchesOf scoreOf pairCost mayGo peelFor reachFor componentsFor partOf edgesBetween spread added totalAfter cheapest firstAfter firstMask different candidates candidatesIn leastTo leastOver leastConflicts pairNumber bitAt valueOf indexOf served tryMasks searchPlaces completeMasks completePlaces putMasks searchAll putBack putBackAll decompose completeAll complete run ascii digitsFor commaList line numberLines firstLine afterKey allDigits isNumeral valueAfter partsOf numbersOf lineNumbers lineOf pieceLines fixedLines layerText maskLines resultText askEach judgePiece judgeRecord judgeOverlaps judgeFixed judgeRecords judgeLayer readLine readNumber readNumbers readHeader readPiece readPieces readFixed readAllFixed layerFrom readBody readLayer edgeBetween decomposeLayer decomposeText
 cases = record {
   row-text = refl;
   row-2 = refl;

@@ -13,6 +13,7 @@ use Rattle.rules.specs.Score.{conflictsOf, stitchesOf, scoreOf, pairCost
 use Rattle.rules.specs.Peeling.{mayGo, peelFor}
 use Rattle.rules.specs.Components.{reachFor, componentsFor}
 use Rattle.rules.specs.Units.{partOf, edgesBetween, spread}
+use Rattle.rules.specs.Library.{leastTo, leastOver, leastConflicts, pairNumber, bitAt, valueOf, indexOf, served}
 use Rattle.rules.specs.Search.{added, totalAfter, cheapest, firstAfter, firstMask, different, candidates, candidatesIn, tryMasks, searchPlaces}
 use Rattle.rules.specs.Decomposition.{putMasks, searchAll, putBack, putBackAll, decompose, run}
 use Rattle.rules.specs.Lines.{ascii, digitsFor, commaList, line, numberLines, firstLine, afterKey, allDigits, isNumeral, valueAfter, partsOf, numbersOf, lineNumbers, lineOf}
@@ -37,7 +38,7 @@ pub record NearRules : Type 0 where
   pub far : edgeBetween (settingsOf 2 100) (piece 0 0 0 20 20) (piece 1 65556 0 65576 20) ≡ done Edge.None
 
 pub nearRules : NearRules
-unfolding sumTo sumPairs sumOf upFrom anyOf countOf keep find settingsInRange pieceInRange hasArea overlapX overlapY gapX gapY squaredGap conflictEdge contact stitchEdge tied edgeOf overlapping conflictsOf stitchesOf scoreOf pairCost mayGo peelFor reachFor componentsFor partOf edgesBetween spread added totalAfter cheapest firstAfter firstMask different candidates candidatesIn tryMasks searchPlaces putMasks searchAll putBack putBackAll decompose run ascii digitsFor commaList line numberLines firstLine afterKey allDigits isNumeral valueAfter partsOf numbersOf lineNumbers lineOf pieceLines fixedLines layerText maskLines resultText askEach judgePiece judgeRecord judgeOverlaps judgeFixed judgeRecords judgeLayer readLine readNumber readNumbers readHeader readPiece readPieces readFixed readAllFixed layerFrom readBody readLayer edgeBetween decomposeLayer decomposeText scoreMasks writeLayer
+unfolding sumTo sumPairs sumOf upFrom anyOf countOf keep find settingsInRange pieceInRange hasArea overlapX overlapY gapX gapY squaredGap conflictEdge contact stitchEdge tied edgeOf overlapping conflictsOf stitchesOf scoreOf pairCost mayGo peelFor reachFor componentsFor partOf edgesBetween spread added totalAfter cheapest firstAfter firstMask different candidates candidatesIn leastTo leastOver leastConflicts pairNumber bitAt valueOf indexOf served tryMasks searchPlaces putMasks searchAll putBack putBackAll decompose run ascii digitsFor commaList line numberLines firstLine afterKey allDigits isNumeral valueAfter partsOf numbersOf lineNumbers lineOf pieceLines fixedLines layerText maskLines resultText askEach judgePiece judgeRecord judgeOverlaps judgeFixed judgeRecords judgeLayer readLine readNumber readNumbers readHeader readPiece readPieces readFixed readAllFixed layerFrom readBody readLayer edgeBetween decomposeLayer decomposeText scoreMasks writeLayer
 nearRules = record { one-step = refl; no-step = refl; far = refl }
 
 -- ---- Texts and refusals
@@ -65,7 +66,7 @@ pub record Texts : Type 0 where
   pub mask-2-of-2 : scoreMasks (settingsOf 2 100) row (0 ∷ 1 ∷ 2 ∷ []) ≡ refused 8 (Place.Piece 2)
 
 pub texts : Texts
-unfolding sumTo sumPairs sumOf upFrom anyOf countOf keep find settingsInRange pieceInRange hasArea overlapX overlapY gapX gapY squaredGap conflictEdge contact stitchEdge tied edgeOf overlapping conflictsOf stitchesOf scoreOf pairCost mayGo peelFor reachFor componentsFor partOf edgesBetween spread added totalAfter cheapest firstAfter firstMask different candidates candidatesIn tryMasks searchPlaces putMasks searchAll putBack putBackAll decompose run ascii digitsFor commaList line numberLines firstLine afterKey allDigits isNumeral valueAfter partsOf numbersOf lineNumbers lineOf pieceLines fixedLines layerText maskLines resultText askEach judgePiece judgeRecord judgeOverlaps judgeFixed judgeRecords judgeLayer readLine readNumber readNumbers readHeader readPiece readPieces readFixed readAllFixed layerFrom readBody readLayer edgeBetween decomposeLayer decomposeText scoreMasks writeLayer
+unfolding sumTo sumPairs sumOf upFrom anyOf countOf keep find settingsInRange pieceInRange hasArea overlapX overlapY gapX gapY squaredGap conflictEdge contact stitchEdge tied edgeOf overlapping conflictsOf stitchesOf scoreOf pairCost mayGo peelFor reachFor componentsFor partOf edgesBetween spread added totalAfter cheapest firstAfter firstMask different candidates candidatesIn leastTo leastOver leastConflicts pairNumber bitAt valueOf indexOf served tryMasks searchPlaces putMasks searchAll putBack putBackAll decompose run ascii digitsFor commaList line numberLines firstLine afterKey allDigits isNumeral valueAfter partsOf numbersOf lineNumbers lineOf pieceLines fixedLines layerText maskLines resultText askEach judgePiece judgeRecord judgeOverlaps judgeFixed judgeRecords judgeLayer readLine readNumber readNumbers readHeader readPiece readPieces readFixed readAllFixed layerFrom readBody readLayer edgeBetween decomposeLayer decomposeText scoreMasks writeLayer
 texts = record {
   reads = refl;
   writes = refl;

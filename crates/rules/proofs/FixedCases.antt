@@ -16,6 +16,7 @@ use Rattle.rules.specs.Score.{conflictsOf, stitchesOf, scoreOf, pairCost
 use Rattle.rules.specs.Peeling.{mayGo, peelFor}
 use Rattle.rules.specs.Components.{reachFor, componentsFor}
 use Rattle.rules.specs.Units.{partOf, edgesBetween, spread}
+use Rattle.rules.specs.Library.{leastTo, leastOver, leastConflicts, pairNumber, bitAt, valueOf, indexOf, served}
 use Rattle.rules.specs.Search.{added, totalAfter, cheapest, firstAfter, firstMask, different, candidates, candidatesIn, tryMasks, searchPlaces}
 use Rattle.rules.specs.Decomposition.{putMasks, searchAll, putBack, putBackAll, decompose, run}
 use Rattle.rules.specs.Lines.{ascii, digitsFor, commaList, line, numberLines, firstLine, afterKey, allDigits, isNumeral, valueAfter, partsOf, numbersOf, lineNumbers, lineOf}
@@ -91,7 +92,7 @@ pub record FixedCases : Type 0 where
   pub no-mask : rowWith "fixed=0\n" ≡ refused 3 (Place.Line 10)
 
 pub fixedCases : FixedCases
-unfolding sumTo sumPairs sumOf upFrom anyOf countOf keep find settingsInRange pieceInRange hasArea overlapX overlapY gapX gapY squaredGap conflictEdge contact stitchEdge tied edgeOf overlapping conflictsOf stitchesOf scoreOf pairCost mayGo peelFor reachFor componentsFor partOf edgesBetween spread added totalAfter cheapest firstAfter firstMask different candidates candidatesIn tryMasks searchPlaces putMasks searchAll putBack putBackAll decompose run ascii digitsFor commaList line numberLines firstLine afterKey allDigits isNumeral valueAfter partsOf numbersOf lineNumbers lineOf pieceLines fixedLines layerText askEach judgePiece judgeRecord judgeOverlaps judgeFixed judgeRecords judgeLayer readLine readNumber readNumbers readHeader readPiece readPieces readFixed readAllFixed layerFrom readBody readLayer edgeBetween decomposeLayer scoreMasks writeLayer
+unfolding sumTo sumPairs sumOf upFrom anyOf countOf keep find settingsInRange pieceInRange hasArea overlapX overlapY gapX gapY squaredGap conflictEdge contact stitchEdge tied edgeOf overlapping conflictsOf stitchesOf scoreOf pairCost mayGo peelFor reachFor componentsFor partOf edgesBetween spread added totalAfter cheapest firstAfter firstMask different candidates candidatesIn leastTo leastOver leastConflicts pairNumber bitAt valueOf indexOf served tryMasks searchPlaces putMasks searchAll putBack putBackAll decompose run ascii digitsFor commaList line numberLines firstLine afterKey allDigits isNumeral valueAfter partsOf numbersOf lineNumbers lineOf pieceLines fixedLines layerText askEach judgePiece judgeRecord judgeOverlaps judgeFixed judgeRecords judgeLayer readLine readNumber readNumbers readHeader readPiece readPieces readFixed readAllFixed layerFrom readBody readLayer edgeBetween decomposeLayer scoreMasks writeLayer
 fixedCases = record {
   alone = refl;
   one = refl;

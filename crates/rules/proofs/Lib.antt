@@ -3,6 +3,7 @@ pub mod Cases
 pub mod TieCases
 pub mod HalfDoneCases
 pub mod FixedCases
+pub mod LibraryCases
 pub mod Examples
 pub mod Tests
 pub mod Lists

@@ -5,6 +5,7 @@ pub mod Score
 pub mod Peeling
 pub mod Components
 pub mod Units
+pub mod Library
 pub mod Search
 pub mod Decomposition
 pub mod Lines

@@ -1,16 +1,18 @@
 -- First assignment and branch-and-bound search (RULES 6), in one component. Its vertices stand in rising order, and the search sees only their places in it,
 -- 0, 1, ... Masks so far are a list p: the mask of place i stands at i, and the next place is length p. `add p m` is the cost that mask m adds there. `fixed`
--- gives the mask that a place must have, or `unset` where it may have any (RULES 18).
+-- gives the mask that a place must have, or `unset` where it may have any (RULES 18). `ended` says at which costs of the incumbent a search ends early (RULES 19).
 use mathlib.Core.Bool.{Bool, true, false, not, cond}
 use mathlib.Core.List.{List, [], _∷_, _++_, map}
+use mathlib.Core.Option.{Option, none, some}
 use Prim.Native.Nat.{ℕ, zero, suc, _+_, _-_, min}
-use lib.Dec.{ltb}
+use lib.Dec.{eqb, ltb}
 use lib.ListN.{length, getD}
 use Rattle.rules.specs.Basics.{given, sumTo, upTo, anyOf, occurs}
 use Rattle.rules.specs.Settings.{unset}
 use Rattle.rules.specs.Edges.{Graph}
 use Rattle.rules.specs.Score.{pairCost}
 use Rattle.rules.specs.Peeling.{isFixed}
+use Rattle.rules.specs.Library.{libraryBound}
 
 -- the graph of a component's places
 abbrev pub localGraph : Graph → List ℕ → Graph
@@ -91,30 +93,40 @@ hold p c s = state (s .steps) (s .stopped) c p
 abbrev pub Next : Type 0
 Next = List ℕ → ℕ → State → State
 
-module _ (add : List ℕ → ℕ → ℕ) (budget : ℕ) where
-  -- Tries the masks ms after p, where p costs c. Each mask tried is one step. A mask whose cost stays below the incumbent's hands over to the next place.
+module _ (add : List ℕ → ℕ → ℕ) (ended : ℕ → Bool) (budget : ℕ) where
+  -- Tries the masks ms after p, where p costs c. No step is due once the incumbent's cost is one to end at. Each mask tried is one step. A mask whose cost stays
+  -- below the incumbent's hands over to the next place.
   unfoldable pub tryMasks : Next → List ℕ → List ℕ → ℕ → State → State
   tryMasks next [] p c s = s
-  tryMasks next (m ∷ ms) p c s = elim (ltb (s .steps) budget) [
-    | false ↦ stop s
-    | true ↦ elim (ltb (c + add p m) (s .cost)) [
-      | true ↦ tryMasks next ms p c (next (p ++ (m ∷ [])) (c + add p m) (step s))
-      | false ↦ tryMasks next ms p c (step s)
+  tryMasks next (m ∷ ms) p c s = elim (ended (s .cost)) [
+    | true ↦ s
+    | false ↦ elim (ltb (s .steps) budget) [
+      | false ↦ stop s
+      | true ↦ elim (ltb (c + add p m) (s .cost)) [
+        | true ↦ tryMasks next ms p c (next (p ++ (m ∷ [])) (c + add p m) (step s))
+        | false ↦ tryMasks next ms p c (step s)
+      ]
     ]
   ]
 
-module _ (add : List ℕ → ℕ → ℕ) (cands : List ℕ → List ℕ) (budget : ℕ) where
+module _ (add : List ℕ → ℕ → ℕ) (cands : List ℕ → List ℕ) (ended : ℕ → Bool) (budget : ℕ) where
   -- The search (document 01: the walk) over the places left after p, where p costs c. A place hands over to its masks.
   unfoldable pub searchPlaces : ℕ → Next
   searchPlaces zero p c s = hold p c s
-  searchPlaces (suc left) p c s = tryMasks add budget (searchPlaces left) (cands p) p c s
+  searchPlaces (suc left) p c s = tryMasks add ended budget (searchPlaces left) (cands p) p c s
 
--- The search of one component of k places, from its first assignment on, with the steps taken before it.
+-- whether a cost is the one to end at, where there is one
+abbrev pub atBound : Option ℕ → ℕ → Bool
+atBound none c = false
+atBound (some b) c = eqb c b
+
+-- The search of one component of k places, from its first assignment on, with the steps taken before it. Where the library serves the component, its bound ends
+-- the search.
 abbrev pub searchFrom : ℕ → ℕ → ℕ → Graph → (ℕ → ℕ) → ℕ → ℕ → Bool → State
 searchFrom K weight budget g fixed k steps stopped =
     let add = added weight g in
     let first = firstAfter (firstMask add K fixed) k [] in
-    searchPlaces add (candidatesIn K fixed k) budget k [] 0 (state steps stopped (total add first) first)
+    searchPlaces add (candidatesIn K fixed k) (atBound (libraryBound K weight g fixed k)) budget k [] 0 (state steps stopped (total add first) first)
 
 -- ---- The search without a budget
 
@@ -131,24 +143,27 @@ progress n c h = record { steps = n; cost = c; incumbent = h }
 abbrev pub further : Progress → Progress
 further s = progress (suc (s .steps)) (s .cost) (s .incumbent)
 
-module _ (add : List ℕ → ℕ → ℕ) where
+module _ (add : List ℕ → ℕ → ℕ) (ended : ℕ → Bool) where
   -- the masks ms after p, as in `tryMasks`
   unfoldable pub completeMasks : (List ℕ → ℕ → Progress → Progress) → List ℕ → List ℕ → ℕ → Progress → Progress
   completeMasks next [] p c s = s
-  completeMasks next (m ∷ ms) p c s = elim (ltb (c + add p m) (s .cost)) [
-    | true ↦ completeMasks next ms p c (next (p ++ (m ∷ [])) (c + add p m) (further s))
-    | false ↦ completeMasks next ms p c (further s)
+  completeMasks next (m ∷ ms) p c s = elim (ended (s .cost)) [
+    | true ↦ s
+    | false ↦ elim (ltb (c + add p m) (s .cost)) [
+      | true ↦ completeMasks next ms p c (next (p ++ (m ∷ [])) (c + add p m) (further s))
+      | false ↦ completeMasks next ms p c (further s)
+    ]
   ]
 
-module _ (add : List ℕ → ℕ → ℕ) (cands : List ℕ → List ℕ) where
+module _ (add : List ℕ → ℕ → ℕ) (cands : List ℕ → List ℕ) (ended : ℕ → Bool) where
   -- the places left after p, as in `searchPlaces`
   unfoldable pub completePlaces : ℕ → List ℕ → ℕ → Progress → Progress
   completePlaces zero p c s = progress (s .steps) c p
-  completePlaces (suc left) p c s = completeMasks add (completePlaces left) (cands p) p c s
+  completePlaces (suc left) p c s = completeMasks add ended (completePlaces left) (cands p) p c s
 
 -- The whole search of one component of k places, from its first assignment on.
 abbrev pub completeFrom : ℕ → ℕ → Graph → (ℕ → ℕ) → ℕ → Progress
 completeFrom K weight g fixed k =
     let add = added weight g in
     let first = firstAfter (firstMask add K fixed) k [] in
-    completePlaces add (candidatesIn K fixed k) k [] 0 (progress 0 (total add first) first)
+    completePlaces add (candidatesIn K fixed k) (atBound (libraryBound K weight g fixed k)) k [] 0 (progress 0 (total add first) first)

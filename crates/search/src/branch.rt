@@ -3,42 +3,29 @@
 // table behind the weights, so that no array more is passed.
 //
 // The numbers of a search: at 0 the incumbent's cost, at 1 whether a step was due beyond the budget (1 if so), at 2 how many places there are,
-// at 3 the masks, at 4 the weight, at 5 the budget. Those from 2 on do not change.
+// at 3 the masks, at 4 the weight, at 5 the budget, at 6 where the search ends (0 if nowhere, else one more than the cost to end at), at 7 the steps
+// that were left when it ended there. Those from 2 to 6 do not change.
+ghost use mathlib.Core.Bool.{false};
 ghost use mathlib.Core.Path.{_≡_};
 ghost use Prim.Native.Nat.{_+_, _≤_, _<_};
-ghost use lib.ListN.{set};
 ghost use Rattle.rows.specs.Weights.{Weights, fixedBehind};
-ghost use Rattle.search.specs.Branch.{Ready, RowOf, Placed, Masked, sizeIn, weightIn, triedIn};
+ghost use Rattle.search.specs.Branch.{Ready, RowOf, Placed, Masked, sizeIn, weightIn, triedIn, hasEnded};
+use crate::incumbent::hold_found;
+use crate::incumbent::note_due;
 use first_assignment::put;
 use rows::added_row;
 use rules::Piece;
 
-// The partial assignment becomes the incumbent.
-pub fn hold(partial: &[u8; 512], incumbent: &mut [u8; 512])
-    ensures { λ _. ⌜ now (incumbent .exit) ≡ now (partial .entry) ⌝ }
-{
-    *incumbent = *partial;
-}
-
-// Stores one of the numbers.
-pub fn store(numbers: &mut [u64; 6], i: usize, x: u64)
-    requires { ⌜ i < 6 ⌝ }
-    ensures { λ _. ⌜ now (numbers .exit) ≡ set (now (numbers .entry)) i x ⌝ }
-{
-    let all: &mut [u64] = numbers;
-    all[i] = x;
-}
-
-// Searches the places from p on, where those before it have the masks of `partial`, which cost `cost`, and `left` steps are left. The masks
-// below `used` and the next one are tried at a place that is not fixed: `used` is how many different masks there are before p, or, where a
-// place is fixed and masks cannot be renamed, the number of masks. Answers how many steps are left then.
+// Searches the places from p on, where those before it have the masks of `partial`, which cost `cost`, and `left` steps are left. The search has
+// not ended. The masks below `used` and the next one are tried at a place that is not fixed: `used` is how many different masks there are before
+// p, or, where a place is fixed and masks cannot be renamed, the number of masks. Answers how many steps are left then, or 0 if it has ended.
 pub fn search_place(
     starts: &[u32; 1025],
     list: &[u16; 131584],
     table: &[u32; 576],
     partial: &mut [u8; 512],
     incumbent: &mut [u8; 512],
-    numbers: &mut [u64; 6],
+    numbers: &mut [u64; 8],
     p: usize,
     cost: u64,
     used: u64,
@@ -46,12 +33,11 @@ pub fn search_place(
 ) -> u64
     requires { ⌜ Ready (now starts) (now list) (fixedBehind (now table)) (now partial) (now numbers) p cost used left ⌝ }
     requires { ⌜ Weights (now table) (weightIn (now numbers)) ⌝ }
+    requires { ⌜ hasEnded (now numbers) ≡ false ⌝ }
     ensures { λ r. ⌜ Placed (now (starts .entry)) (now (list .entry)) (fixedBehind (now (table .entry))) (now (partial .entry)) (now (partial .exit)) (now (incumbent .entry)) (now (incumbent .exit)) (now (numbers .entry)) (now (numbers .exit)) p cost left r ⌝ }
 {
     if numbers[2] <= p as u64 {
-        hold(partial, incumbent);
-        store(numbers, 0, cost);
-        return left;
+        return hold_found(partial, incumbent, numbers, cost, left);
     }
     let row = added_row(starts, list, table, partial, p);
     let masks = numbers[3];
@@ -79,14 +65,15 @@ pub fn search_place(
     )
 }
 
-// Tries `more` masks from m on at place p, where mask m adds what the row has at m.
+// Tries `more` masks from m on at place p, where mask m adds what the row has at m. A search that has ended has no steps left, so the one test for
+// these ends the loop in both cases.
 fn search_masks(
     starts: &[u32; 1025],
     list: &[u16; 131584],
     table: &[u32; 576],
     partial: &mut [u8; 512],
     incumbent: &mut [u8; 512],
-    numbers: &mut [u64; 6],
+    numbers: &mut [u64; 8],
     p: usize,
     cost: u64,
     used: u64,
@@ -106,7 +93,7 @@ fn search_masks(
     let mut untried = more;
     while 0 < untried {
         if rest == 0 {
-            store(numbers, 1, 1);
+            note_due(numbers);
             return 0;
         }
         let total = cost + row[mask as usize] as u64;

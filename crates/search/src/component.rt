@@ -1,8 +1,10 @@
 // The search of one component, from its first assignment on.
 ghost use Rattle.search.specs.Component.{Posed, Searched};
-use crate::branch::hold;
 use crate::branch::search_place;
-use crate::branch::store;
+use crate::incumbent::hold;
+use crate::incumbent::is_end;
+use crate::incumbent::steps_left;
+use crate::incumbent::store;
 use first_assignment::first_assignment;
 use first_assignment::has_fixed;
 use rows::note_fixed;
@@ -15,7 +17,7 @@ pub fn search_component(
     list: &[u16; 131584],
     fixed: &[u8; 512],
     incumbent: &mut [u8; 512],
-    numbers: &mut [u64; 6],
+    numbers: &mut [u64; 8],
     left: u64,
 ) -> u64
     requires { ⌜ Posed (now starts) (now list) (now fixed) (now numbers) left ⌝ }
@@ -28,12 +30,15 @@ pub fn search_component(
     let cost = first_assignment(starts, list, &table, fixed, &mut partial, size, numbers[3]);
     hold(&partial, incumbent);
     store(numbers, 0, cost);
+    if is_end(numbers, cost) {
+        return left;
+    }
     let used = if has_fixed(fixed, size) {
         numbers[3]
     } else {
         0
     };
-    search_place(
+    let rest = search_place(
         starts,
         list,
         &table,
@@ -44,5 +49,6 @@ pub fn search_component(
         0,
         used,
         left,
-    )
+    );
+    steps_left(numbers, rest)
 }

@@ -2,5 +2,6 @@
 // each has the list of its earlier neighbours. The search of all components stands on this crate.
 mod branch;
 mod component;
+mod incumbent;
 
 pub use component::search_component;

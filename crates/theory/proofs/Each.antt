@@ -4,7 +4,7 @@ use mathlib.Core.Path.{_≡_, refl}
 use Prim.Native.Nat.{ℕ, zero, suc, _+_, _<_}
 use native.Mathlib.Nat.{not-suc-le-zero, le-of-suc-le-suc}
 use native.Mathlib.Omega.{arith}
-use lib.ListN.{length, getD}
+use lib.ListN.{length, getD, take, replicate}
 use Rattle.rules.specs.Basics.{upFrom}
 
 -- every number of the list has the property
@@ -49,3 +49,16 @@ pub getD-map : (f : ℕ → ℕ) (p : List ℕ) (i : ℕ) → i < length p → g
 getD-map f [] i h = absurd (not-suc-le-zero h)
 getD-map f (x ∷ p) zero h = refl
 getD-map f (x ∷ p) (suc i) h = getD-map f p i (le-of-suc-le-suc h)
+
+pub each-append : (P : ℕ → Type 0) (xs ys : List ℕ) → Each P xs → Each P ys → Each P (xs ++ ys)
+each-append P [] ys a b = b
+each-append P (x ∷ xs) ys a b = (a .0, each-append P xs ys (a .1) b)
+
+pub each-replicate : (P : ℕ → Type 0) (x : ℕ) → P x → (n : ℕ) → Each P (replicate n x)
+each-replicate P x h zero = tt
+each-replicate P x h (suc n) = (h, each-replicate P x h n)
+
+pub each-take : (P : ℕ → Type 0) (n : ℕ) (xs : List ℕ) → Each P xs → Each P (take n xs)
+each-take P zero xs e = tt
+each-take P (suc n) [] e = tt
+each-take P (suc n) (x ∷ xs) e = (e .0, each-take P n xs (e .1))

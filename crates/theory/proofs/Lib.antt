@@ -11,7 +11,12 @@ pub mod Search
 pub mod Budget
 pub mod Complete
 pub mod Fixed
+pub mod Least
+pub mod Library
 pub mod Renaming
+pub mod Enough
+pub mod Table
+pub mod Early
 pub mod SameCost
 pub mod SearchAll
 pub mod Decomposition

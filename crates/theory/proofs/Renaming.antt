@@ -1,7 +1,7 @@
 -- The search tries after p only masks in use and the lowest one not in use. That loses nothing: an assignment whose next mask is a higher one costs the same
 -- with those two masks exchanged from there on, since a cost asks only which places have the same mask. So every assignment to K masks has one of the same
 -- cost that the candidates allow (`renaming`). Where a place is fixed masks are not exchanged, and the search tries all that the places may have. Either way a
--- search that was not stopped holds a cheapest one (`from-cheapest`).
+-- search that was not stopped holds a cheapest one (`from-cheapest`), also where the library ended it.
 use mathlib.Core.Bool.{Bool, true, false, not, cond, or-true, or-false}
 use mathlib.Core.Path.{_≡_, refl, sym, ap, subst, _∙_}
 use mathlib.Core.List.{List, [], _∷_, _++_, map, map-append, map-map, map-id, List·Memᴰ}
@@ -22,8 +22,9 @@ use Rattle.rules.proofs.Lists.{any-snoc, any-out, in-upFrom, in-upTo}
 use Rattle.rules.proofs.Tests.{by-test, lt-or-ge}
 use Rattle.theory.proofs.Each.{Each, each-imp, each-snoc, each-of, getD-map}
 use Rattle.rules.proofs.Sums.{sum-ext}
-use Rattle.theory.proofs.Search.{search-passes, search-priced, search-length, Priced, Allowed, best, first-passes, first-length}
-use Rattle.theory.proofs.Budget.{start}
+use Rattle.theory.proofs.Search.{search-passes, search-priced, search-length, Priced, Allowed, Sparing, best, first-passes, first-length}
+use Rattle.theory.proofs.Budget.{ends, start, searchUntil}
+use Rattle.theory.proofs.Library.{library-spares}
 use Rattle.theory.proofs.Fixed.{May, Fits, fits-none, fits-snoc, candidates-may, first-may, allowed-fixed, allowed-free}
 
 -- ---- The candidates
@@ -177,11 +178,12 @@ pub record Feasible (K weight : ℕ) (g : Graph) (fixed : ℕ → ℕ) (k : ℕ)
   pub fits : Fits K fixed (s .incumbent)
   pub cost : Priced (added weight g) s
 
-module _ (K weight : ℕ) (g : Graph) (fixed : ℕ → ℕ) (budget k steps : ℕ) (stopped : Bool) where
+-- with any costs to end at
+module _ (ended : ℕ → Bool) (K weight : ℕ) (g : Graph) (fixed : ℕ → ℕ) (budget k steps : ℕ) (stopped : Bool) where
   -- it starts so, from the first assignment, and stays so
-  pub from-feasible : 0 < K → ((i : ℕ) → i < k → isFixed fixed i ≡ true → fixed i < K) → Feasible K weight g fixed k (searchFrom K weight budget g fixed k steps stopped)
+  pub until-feasible : 0 < K → ((i : ℕ) → i < k → isFixed fixed i ≡ true → fixed i < K) → Feasible K weight g fixed k (searchUntil ended K weight budget g fixed k steps stopped)
   unfolding totalAfter
-  from-feasible h below =
+  until-feasible h below =
       let add = added weight g in
       let cands = candidatesIn K fixed k in
       let pick = firstMask add K fixed in
@@ -190,23 +192,24 @@ module _ (K weight : ℕ) (g : Graph) (fixed : ℕ → ℕ) (budget k steps : �
       (λ left p e. (omega (arith, length-append p (pick p ∷ [])), fits-snoc p (pick p) (e .1) (first-may K h fixed k below add p (omega arith))))
       k [] (zero-add k, fits-none) in
       record {
-        size = search-length add cands budget k [] 0 s (zero-add k) (first-length pick k [] ∙ zero-add k);
-        fits = search-passes add cands budget (λ left p c. (length p + left ≡ k) × Fits K fixed p)
+        size = search-length add cands ended budget k [] 0 s (zero-add k) (first-length pick k [] ∙ zero-add k);
+        fits = search-passes add cands ended budget (λ left p c. (length p + left ≡ k) × Fits K fixed p)
             (λ left p c e. each-imp (λ m n. (omega (arith, length-append p (m ∷ [])), fits-snoc p m (e .1) n)) (cands p) (candidates-may K h fixed k below p (omega arith)))
             k [] 0 s (zero-add k, fits-none) first .1;
-        cost = search-priced add cands budget k [] 0 s refl refl;
+        cost = search-priced add cands ended budget k [] 0 s refl refl;
       }
 
-  -- if it was not stopped, no masks that the places may have cost less
-  pub from-cheapest : searchFrom K weight budget g fixed k steps stopped .stopped ≡ false
-      → (q : List ℕ) → length q ≡ k → Fits K fixed q → searchFrom K weight budget g fixed k steps stopped .cost ≤ total (added weight g) q
-  from-cheapest e q n fits =
+  -- if it was not stopped, and ended early at no higher cost, no masks that the places may have cost less
+  pub until-cheapest : searchUntil ended K weight budget g fixed k steps stopped .stopped ≡ false
+      → (q : List ℕ) → length q ≡ k → Fits K fixed q → Sparing ended (total (added weight g) q)
+      → searchUntil ended K weight budget g fixed k steps stopped .cost ≤ total (added weight g) q
+  until-cheapest e q n fits spares =
       by-test (anyOf (isFixed fixed) (upTo k))
-      (λ some. reaches q n (allowed-fixed K fixed k some [] q (λ j l. subst (λ (i : ℕ). May K fixed i (getD q j 0)) (sym (zero-add j)) (fits j l))))
+      (λ some. reaches q n (allowed-fixed K fixed k some [] q (λ j l. subst (λ (i : ℕ). May K fixed i (getD q j 0)) (sym (zero-add j)) (fits j l))) spares)
       (λ none.
       let free : (i : ℕ) → i < k → isFixed fixed i ≡ false = λ i l. any-out (isFixed fixed) (upTo k) none i (in-upTo k i .1 l) in
       let r = renaming K weight g q (each-of (λ m. m < K) q (λ i l. fits i l .below)) in
-      rw (r .cost) at (reaches (r .masks) (r .size ∙ n) (allowed-free K fixed k free [] (r .masks) (omega (arith, r .size)) (r .allowed))))
+      rw (r .cost) at (reaches (r .masks) (r .size ∙ n) (allowed-free K fixed k free [] (r .masks) (omega (arith, r .size)) (r .allowed)) (rw (r .cost) spares)))
     where
       cands : List ℕ → List ℕ
       cands = candidatesIn K fixed k
@@ -215,7 +218,18 @@ module _ (K weight : ℕ) (g : Graph) (fixed : ℕ → ℕ) (budget k steps : �
       s = start K weight g fixed k steps stopped
 
       -- what the candidates allow costs no less
-      reaches : (q : List ℕ) → length q ≡ k → Allowed cands [] q → searchPlaces (added weight g) cands budget k [] 0 s .cost ≤ total (added weight g) q
-      reaches q n allowed =
-          subst (λ (j : ℕ). searchPlaces (added weight g) cands budget j [] 0 s .stopped ≡ false → searchPlaces (added weight g) cands budget j [] 0 s .cost ≤ total (added weight g) q)
-          n (best (added weight g) cands budget q [] 0 s allowed) e
+      reaches : (q : List ℕ) → length q ≡ k → Allowed cands [] q → Sparing ended (total (added weight g) q) → searchPlaces (added weight g) cands ended budget k [] 0 s .cost ≤ total (added weight g) q
+      reaches q n allowed spares =
+          subst (λ (j : ℕ). searchPlaces (added weight g) cands ended budget j [] 0 s .stopped ≡ false → searchPlaces (added weight g) cands ended budget j [] 0 s .cost ≤ total (added weight g) q)
+          n (best (added weight g) cands ended budget q [] 0 s allowed spares) e
+
+-- with those of the library
+module _ (K weight : ℕ) (g : Graph) (fixed : ℕ → ℕ) (budget k steps : ℕ) (stopped : Bool) where
+  pub from-feasible : 0 < K → ((i : ℕ) → i < k → isFixed fixed i ≡ true → fixed i < K) → Feasible K weight g fixed k (searchFrom K weight budget g fixed k steps stopped)
+  from-feasible = until-feasible (ends K weight g fixed k) K weight g fixed budget k steps stopped
+
+  pub from-cheapest : searchFrom K weight budget g fixed k steps stopped .stopped ≡ false
+      → (q : List ℕ) → length q ≡ k → Fits K fixed q → searchFrom K weight budget g fixed k steps stopped .cost ≤ total (added weight g) q
+  from-cheapest e q n fits =
+      until-cheapest (ends K weight g fixed k) K weight g fixed budget k steps stopped e q n fits
+      (rw n at (library-spares K weight g fixed q (each-of (λ m. m < K) q (λ i l. fits i l .below))))

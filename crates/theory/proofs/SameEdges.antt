@@ -4,6 +4,7 @@
 use mathlib.Core.Bool.{Bool, false, not}
 use mathlib.Core.List.{List, [], _∷_, map, List·Memᴰ, List·Memᴰ·head as here, List·Memᴰ·tail as later, List·Memᴰ·not-nil, List·Memᴰ·cases-cons}
 use mathlib.Core.Logic.{⊎-elim}
+use mathlib.Core.Option.{Option}
 use mathlib.Core.Path.{_≡_, refl, ap, ap₂, subst, _∙_}
 use Prim.Native.Nat.{ℕ, zero, suc, _<_}
 use native.Mathlib.Omega.{arith}
@@ -15,12 +16,15 @@ use Rattle.rules.specs.Score.{pairCost}
 use Rattle.rules.specs.Settings.{unset}
 use Rattle.rules.specs.Peeling.{Peeled, peel}
 use Rattle.rules.specs.Components.{componentOf, componentsFor, components}
-use Rattle.rules.specs.Search.{State, localGraph, localFixed, added, candidatesIn, searchFrom}
+use Rattle.rules.specs.Library.{libraryBound}
+use Rattle.rules.specs.Search.{State, localGraph, localFixed, added, candidatesIn, atBound, searchFrom}
 use Rattle.rules.specs.Decomposition.{Reached, putMasks, searchAll, withReturned, decompose}
 use Rattle.rules.proofs.Lists.{_∈_, keep-in, place-in}
 use Rattle.rules.proofs.Sums.{sum-ext}
 use Rattle.theory.proofs.Peeling.{parts}
 use Rattle.theory.proofs.Neighbours.{SameNeighbours, SameFixed, peel-same, decompose-stages}
+use Rattle.theory.proofs.Budget.{ends, searchUntil}
+use Rattle.theory.proofs.Library.{bound-same}
 use Rattle.theory.proofs.SameCost.{from-alike}
 
 -- g and h have the same edges among vs
@@ -64,12 +68,21 @@ module _ {g h : Graph} {vs : List ℕ} (s : SameEdges g h vs) where
       rw (s .conflicts _ _ a b, s .stitches _ _ a b)
 
   module _ (K W budget : ℕ) (fixed : ℕ → ℕ) where
+    -- where its search ends early
+    bound-alike : (order : List ℕ) → ((u : ℕ) → u ∈ order → u ∈ vs) → (local : ℕ → ℕ)
+        → libraryBound K W (localGraph g order) local (length order) ≡ libraryBound K W (localGraph h order) local (length order)
+    bound-alike order inside local =
+        let at : (i : ℕ) → i < length order → getD order i 0 ∈ vs = λ i l. inside _ (place-in order i l) in
+        bound-same (localGraph g order) (localGraph h order) (length order)
+        (λ u v l m. s .conflicts _ _ (at u (omega arith)) (at v m)) (λ u v l m. s .stitches _ _ (at u (omega arith)) (at v m)) K W local
+
     from-same : (order : List ℕ) → ((u : ℕ) → u ∈ order → u ∈ vs) → (steps : ℕ) (stopped : Bool)
         → searchFrom K W budget (localGraph g order) (localFixed fixed order) (length order) steps stopped
         ≡ searchFrom K W budget (localGraph h order) (localFixed fixed order) (length order) steps stopped
     from-same order inside steps stopped =
         let local = localFixed fixed order in
-        from-alike (added W (localGraph g order)) (added W (localGraph h order)) (length order) (added-same W order inside) budget K local (candidatesIn K local (length order)) steps stopped
+        ap (λ (bound : Option ℕ). searchUntil (atBound bound) K W budget (localGraph g order) local (length order) steps stopped) (bound-alike order inside local)
+        ∙ from-alike (added W (localGraph g order)) (added W (localGraph h order)) (length order) (added-same W order inside) (ends K W (localGraph h order) local (length order)) budget K local (candidatesIn K local (length order)) steps stopped
 
     all-same : (orders : List (List ℕ)) → ((c : List ℕ) → List·Memᴰ c orders → (u : ℕ) → u ∈ c → u ∈ vs) → (w : Reached)
         → searchAll K W budget g fixed orders w ≡ searchAll K W budget h fixed orders w

@@ -43,7 +43,7 @@ unfolding sumTo
 sum-weighted W f h k e zero = omega arith
 sum-weighted W f h k e (suc n) = omega (arith, sum-weighted W f h k e n, e n)
 
-pairs-weighted : (W : ℕ) (f h k : ℕ → ℕ → ℕ) → ((u v : ℕ) → W * f u v + h u v ≡ k u v) → (n : ℕ) → W * sumPairs f n + sumPairs h n ≡ sumPairs k n
+pub pairs-weighted : (W : ℕ) (f h k : ℕ → ℕ → ℕ) → ((u v : ℕ) → W * f u v + h u v ≡ k u v) → (n : ℕ) → W * sumPairs f n + sumPairs h n ≡ sumPairs k n
 unfolding sumPairs
 pairs-weighted W f h k e =
     sum-weighted W (λ v. sumTo (λ u. f u v) v) (λ v. sumTo (λ u. h u v) v) (λ v. sumTo (λ u. k u v) v)

@@ -51,20 +51,20 @@ module _ (K W : ℕ) (g : Graph) (fixed : ℕ → ℕ) (budget : ℕ) where
   pub all-sticks : (orders : List (List ℕ)) (w : Reached) → w .stopped ≡ true → searchAll K W budget g fixed orders w .stopped ≡ true
   unfolding searchAll
   all-sticks [] w e = e
-  all-sticks (order ∷ orders) w e = all-sticks orders (after order w) (search-sticks _ _ budget (length order) [] 0 _ e)
+  all-sticks (order ∷ orders) w e = all-sticks orders (after order w) (search-sticks _ _ _ budget (length order) [] 0 _ e)
 
   -- steps stay within the budget, and are the budget when stopped
   pub all-within : (orders : List (List ℕ)) (w : Reached) → w .steps ≤ budget → searchAll K W budget g fixed orders w .steps ≤ budget
   unfolding searchAll
   all-within [] w h = h
-  all-within (order ∷ orders) w h = all-within orders (after order w) (search-within _ _ budget (length order) [] 0 _ h)
+  all-within (order ∷ orders) w h = all-within orders (after order w) (search-within _ _ _ budget (length order) [] 0 _ h)
 
   pub all-spent : (orders : List (List ℕ)) (w : Reached) → w .steps ≤ budget → (w .stopped ≡ true → w .steps ≡ budget)
       → searchAll K W budget g fixed orders w .stopped ≡ true → searchAll K W budget g fixed orders w .steps ≡ budget
   unfolding searchAll
   all-spent [] w h s = s
   all-spent (order ∷ orders) w h s =
-      all-spent orders (after order w) (search-within _ _ budget (length order) [] 0 _ h) (search-spent _ _ budget (length order) [] 0 _ h s)
+      all-spent orders (after order w) (search-within _ _ _ budget (length order) [] 0 _ h) (search-spent _ _ _ budget (length order) [] 0 _ h s)
 
   -- there stay as many masks
   pub all-length : (orders : List (List ℕ)) (w : Reached) → length (searchAll K W budget g fixed orders w .masks) ≡ length (w .masks)

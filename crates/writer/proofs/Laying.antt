@@ -11,7 +11,7 @@ use Rattle.rules.specs.declared.layer.Piece.{Piece}
 use Rattle.rules.specs.declared.refusal.Place.{Place}
 use Rattle.rules.specs.Calls.{writeLayer}
 use Rattle.rules.specs.Lines.{ascii, line}
-use Rattle.rules.specs.LayerText.{pieceNumbers, pieceLine, pieceLines, layerText}
+use Rattle.rules.specs.LayerText.{pieceLine, pieceLines, layerText}
 use Rattle.rules.specs.Questions.{done, refused, judgeLayer, Valid, pieceFrom}
 use Rattle.rules.specs.Settings.{noPiece, unset}
 use Rattle.layout.specs.Flat.{pieceOf, piecesOf}

@@ -3,7 +3,8 @@
 use crate::check::{Checker, Finding};
 use crate::generate::{
     any_layer, any_size, at_limits, damaged, damaged_stream, fix, fixed_at_limits, fixed_runs,
-    free_layer, large_enough, lively, made, streams_at_limits, whole_stream,
+    free_layer, large_enough, lively, made, small_components, small_components_at_limits,
+    streams_at_limits, whole_stream,
 };
 use crate::input::Input;
 use crate::layer::Layer;
@@ -20,9 +21,15 @@ const LONGEST_SEARCH: u64 = 20_000;
 /// The greatest budget of a large layer.
 const GREATEST_BUDGET: u64 = 200_000;
 
-/// What comes before all rounds: the ends of every range.
+/// What comes before all rounds: the ends of every range, and every small component.
 pub fn limits(checker: &mut Checker) -> Result<(), Finding> {
-    for text in [at_limits(), fixed_at_limits(), fixed_runs()].concat() {
+    let texts = [
+        small_components_at_limits(),
+        at_limits(),
+        fixed_at_limits(),
+        fixed_runs(),
+    ];
+    for text in texts.concat() {
         checker.input(Family::Limits, Input::Layer(text), 4096)?;
     }
     Ok(())
@@ -57,13 +64,15 @@ pub fn round(checker: &mut Checker, seed: u64, number: u64) -> Result<(), Findin
     made_layer(checker, random)
 }
 
-/// A layer of at most twelve pieces at every budget, if its search is short.
+/// A layer of at most twelve pieces, or of small components, at every budget, if its search is short.
 fn small(checker: &mut Checker, random: &mut Random) -> Result<(), Finding> {
-    let layer = if random.once_in(2) {
-        lively(random)
-    } else {
-        let count = random.below(13) as usize;
-        any_layer(random, count)
+    let layer = match random.below(8) {
+        0 => small_components(random),
+        1..=4 => lively(random),
+        _ => {
+            let count = random.below(13) as usize;
+            any_layer(random, count)
+        }
     };
     let budgets = budgets(random, &layer);
     checker.budgets(&layer, &budgets, large_enough(random))

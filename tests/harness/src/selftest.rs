@@ -15,7 +15,12 @@ pub fn selftest(seed: u64, rounds: u64, score_rounds: u64) -> bool {
     let mut all = !found(right, limits, seed, 2)
         & !found(right, stream_limits, seed, 2)
         & !found_in_scores(right, seed, 20);
-    for fault in [&Mutation::OF_EDGES[..], &Mutation::OF_LAYERS].concat() {
+    let of_layers = [
+        &Mutation::OF_EDGES[..],
+        &Mutation::OF_LAYERS,
+        &Mutation::OF_SMALL_GRAPHS,
+    ];
+    for fault in of_layers.concat() {
         all &= found(fault, limits, seed, rounds);
     }
     for fault in Mutation::OF_STREAMS {

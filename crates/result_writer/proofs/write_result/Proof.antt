@@ -1,10 +1,9 @@
 -- `write_result`: the verdict, the four counts, the masks. Assumes nothing.
 use borrow.Author.Needs.{needs}
 use native.Mathlib.Omega.{arith}
-use mathlib.Core.Path.{_≡_, refl, _∙_}
+use mathlib.Core.Path.{refl, _∙_}
 use Rattle.rules.specs.Answers.{runOf}
 use Rattle.rules.specs.ResultText.{resultText}
-use Rattle.line_writer.specs.Writing.{Put}
 use Rattle.line_writer.proofs.Puts.{put-on, put-front}
 use Rattle.result_writer.proofs.ResultLines.{result-size}
 use Rattle.result_writer.proofs.write_result.Statement.{statement}

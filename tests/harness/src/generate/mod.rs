@@ -11,6 +11,8 @@ mod lively;
 mod made;
 mod masks;
 mod patches;
+mod small_component_limits;
+mod small_components;
 mod streams;
 mod tiles;
 mod wires;
@@ -25,6 +27,8 @@ pub use limits::{at_limits, knot};
 pub use lively::lively;
 pub use made::made;
 pub use masks::{any_masks, keeping_ties, plain_masks, split_units, stray_masks, PLAIN_LISTS};
+pub use small_component_limits::small_components_at_limits;
+pub use small_components::small_components;
 pub use streams::{damaged_stream, streams_at_limits, whole_stream};
 
 /// A layer of at most `count` pieces with a budget of 0. Half of them may have fixed masks.

@@ -75,6 +75,31 @@ impl Mutation {
         Mutation::LayerChanged,
     ];
 
+    /// Faults of the library of small graphs.
+    pub const OF_SMALL_GRAPHS: [Mutation; 21] = [
+        Mutation::EntryTooHigh,
+        Mutation::EntryTooLow,
+        Mutation::PairsByGreater,
+        Mutation::EntryWithoutWeight,
+        Mutation::TwoMasksServed,
+        Mutation::FourMasksServed,
+        Mutation::SixUnitsServed,
+        Mutation::FiveUnitsNotServed,
+        Mutation::FourUnitsNotServed,
+        Mutation::StitchedServed,
+        Mutation::DoubledServed,
+        Mutation::FixedServed,
+        Mutation::PeeledStitchBars,
+        Mutation::PeeledDoubledBars,
+        Mutation::FixedElsewhereBars,
+        Mutation::EndSeenLate,
+        Mutation::FirstStepTaken,
+        Mutation::FirstNotCompared,
+        Mutation::OnlyFirstCompared,
+        Mutation::BudgetBeforeEnd,
+        Mutation::LastSearchDecides,
+    ];
+
     /// Faults that only a stream shows.
     pub const OF_STREAMS: [Mutation; 52] = [
         Mutation::SettingsOneLonger,

@@ -1,14 +1,15 @@
-//! What ties and fixed masks do in a layer, so that the tally can tell what was seen of it.
+//! What ties, fixed masks and small components do in a layer, so that the tally can tell what was seen of it.
 
 use super::edges::{is_point, Edges};
 use super::mutation::Mutation;
 use super::peel::{peel, Removed};
 use super::search::components;
+use super::small_kinds::{of_small, SMALL_KINDS};
 use super::ties::{units, Graph, Near};
 use crate::layer::Layer;
 
 /// What a layer can have.
-pub const KINDS: [&str; TIES + FIXED] = [
+pub const KINDS: [&str; TIES + FIXED + SMALL_KINDS] = [
     "ties",
     "ties carried on",
     "doubled conflict edges",
@@ -27,6 +28,20 @@ pub const KINDS: [&str; TIES + FIXED] = [
     "conflicts between fixed units",
     "components in which a fixed unit is not the first",
     "components with a fixed unit and components without",
+    "components that the library of small graphs serves",
+    "several of these",
+    "such of five units",
+    "such with steps",
+    "such with stitch edges inside a tied unit",
+    "such with stitch edges to peeled units",
+    "such with doubled edges to peeled units",
+    "such beside fixed units",
+    "small components with stitch edges",
+    "small ones with doubled edges",
+    "small ones with fixed units",
+    "those of six units",
+    "small ones on two masks",
+    "small ones on four masks",
 ];
 
 const TIES: usize = 7;
@@ -48,7 +63,8 @@ pub fn kinds(layer: &Layer) -> Kinds {
     let graph = Graph::of(layer, &edges, &units, Mutation::None);
     let mut there = [false; KINDS.len()];
     there[..TIES].copy_from_slice(&of_ties(layer, &edges, &units, &graph));
-    there[TIES..].copy_from_slice(&of_fixed(layer, &units, &graph));
+    there[TIES..TIES + FIXED].copy_from_slice(&of_fixed(layer, &units, &graph));
+    there[TIES + FIXED..].copy_from_slice(&of_small(layer, &edges, &units, &graph));
     let sizes = graph.units.iter().map(|&unit| size(&units, unit));
     Kinds {
         there,

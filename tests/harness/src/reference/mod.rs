@@ -20,6 +20,10 @@ mod score_kinds;
 #[cfg(test)]
 mod score_tests;
 mod search;
+mod small_graphs;
+#[cfg(test)]
+mod small_graphs_tests;
+mod small_kinds;
 mod stream;
 #[cfg(test)]
 mod stream_tests;

@@ -63,6 +63,49 @@ pub enum Mutation {
     /// A search that ends with the last step of the budget is called open.
     FullBudgetIsOpen,
 
+    /// Entries of the library of small graphs are too high by one.
+    EntryTooHigh,
+    /// They are too low by one.
+    EntryTooLow,
+    /// The bits of an index stand in the order of the greater units.
+    PairsByGreater,
+    /// The search ends at the entry and not at the weight times it.
+    EntryWithoutWeight,
+    /// The library serves components on two masks too.
+    TwoMasksServed,
+    /// It serves components on four masks too.
+    FourMasksServed,
+    /// It serves components of six units too.
+    SixUnitsServed,
+    /// It does not serve components of five units.
+    FiveUnitsNotServed,
+    /// It serves components of five units only.
+    FourUnitsNotServed,
+    /// It serves components with stitch edges too.
+    StitchedServed,
+    /// It serves components with several conflict edges between two units too.
+    DoubledServed,
+    /// It serves components with a fixed unit too.
+    FixedServed,
+    /// A stitch edge to a unit that was peeled keeps a component from it.
+    PeeledStitchBars,
+    /// Several conflict edges to a unit that was peeled do.
+    PeeledDoubledBars,
+    /// A fixed unit of another component does.
+    FixedElsewhereBars,
+    /// The end of such a search is seen one step late.
+    EndSeenLate,
+    /// A first step is taken in any case.
+    FirstStepTaken,
+    /// The first assignment does not end a search.
+    FirstNotCompared,
+    /// Only the first assignment ends a search.
+    OnlyFirstCompared,
+    /// The budget is asked before the end of a search is seen.
+    BudgetBeforeEnd,
+    /// A search that ends after the budget ended another is called best.
+    LastSearchDecides,
+
     /// Numbers of the text wrap at 32 bits.
     WrapAt32Bits,
     /// Numbers of the text wrap at 64 bits.

@@ -185,7 +185,7 @@ pub fn least_cost(layer: &Layer) -> u64 {
 }
 
 /// Counts up, the masks being digits; false after the last assignment.
-fn next_assignment(masks: &mut [u64], base: u64) -> bool {
+pub fn next_assignment(masks: &mut [u64], base: u64) -> bool {
     for mask in masks {
         *mask += 1;
         if *mask < base {

@@ -1,8 +1,10 @@
 //! Components of the core, their first assignments and the search within the budget (RULES 5, 6).
 
+use std::mem;
 use std::ops::Range;
 
 use super::mutation::Mutation;
+use super::small_graphs::final_cost;
 use super::ties::{Graph, Near};
 use crate::layer::Settings;
 
@@ -23,6 +25,9 @@ pub fn search(graph: &Graph, core: &[usize], settings: &Settings, wrong: Mutatio
     for component in components(graph, core, wrong) {
         if wrong == Mutation::BudgetForEachComponent {
             budget.limit = budget.steps + settings.budget;
+        }
+        if wrong == Mutation::LastSearchDecides {
+            budget.used_up = false;
         }
         let mut search = Search::new(graph, &component, settings, &mut budget, wrong);
         let first = search.incumbent.clone();
@@ -94,14 +99,17 @@ struct Budget {
 }
 
 impl Budget {
-    /// Whether the step that is due can be taken; if so, it is.
+    /// Whether the step that is due can be taken.
+    fn has_step(&mut self) -> bool {
+        self.used_up |= self.steps == self.limit;
+        self.steps < self.limit
+    }
+
+    /// The same; if it can be, it is.
     fn step(&mut self) -> bool {
-        if self.steps == self.limit {
-            self.used_up = true;
-            return false;
-        }
-        self.steps += 1;
-        true
+        let taken = self.has_step();
+        self.steps += u64::from(taken);
+        taken
     }
 }
 
@@ -116,6 +124,11 @@ struct Search<'a> {
     partial: Vec<Option<u64>>,
     incumbent: Vec<u64>,
     incumbent_cost: u64,
+    first_cost: u64,
+    /// The incumbent's cost at which the search ends, where the library of small graphs has one.
+    final_cost: Option<u64>,
+    /// A fault: whether the search could have ended before its last step.
+    was_over: bool,
 }
 
 impl<'a> Search<'a> {
@@ -136,6 +149,9 @@ impl<'a> Search<'a> {
             partial: vec![None; graph.size()],
             incumbent: Vec::new(),
             incumbent_cost: 0,
+            first_cost: 0,
+            final_cost: final_cost(graph, component, settings, wrong),
+            was_over: false,
         };
         for &unit in component {
             let mask = search.first(unit);
@@ -143,6 +159,7 @@ impl<'a> Search<'a> {
             search.incumbent.push(mask);
             search.partial[unit] = Some(mask);
         }
+        search.first_cost = search.incumbent_cost;
         search.partial = vec![None; graph.size()];
         search
     }
@@ -198,9 +215,8 @@ impl<'a> Search<'a> {
         }
         let unit = self.component[place];
         let cost_on_entry = self.incumbent_cost;
-        let free = self.wrong == Mutation::FixedStepFree && self.graph.fixed[unit].is_some();
         for mask in self.masks_to_try(place) {
-            if !free && !self.budget.step() {
+            if !self.takes_step(place) {
                 break;
             }
             let cost = cost + self.added(unit, mask);
@@ -209,6 +225,32 @@ impl<'a> Search<'a> {
                 self.place(place + 1, cost);
                 self.partial[unit] = None;
             }
+        }
+    }
+
+    /// Whether another mask is tried at a place, which is a step. Where the search is over none is due, and
+    /// the budget is not asked.
+    fn takes_step(&mut self, place: usize) -> bool {
+        if self.wrong == Mutation::BudgetBeforeEnd && !self.budget.has_step() {
+            return false;
+        }
+        let unit = self.component[place];
+        let free = self.wrong == Mutation::FixedStepFree && self.graph.fixed[unit].is_some();
+        !self.is_over(place) && (free || self.budget.step())
+    }
+
+    /// Whether the incumbent has the cost that the library of small graphs knows as the least. Only with a
+    /// fault can it be below.
+    fn is_over(&mut self, place: usize) -> bool {
+        let cost = self.incumbent_cost;
+        let over = self.final_cost.map_or(false, |least| cost <= least);
+        match self.wrong {
+            Mutation::EndSeenLate => mem::replace(&mut self.was_over, over),
+            // Place 0 has one mask to try.
+            Mutation::FirstStepTaken => over && place > 0,
+            Mutation::FirstNotCompared => over && cost < self.first_cost,
+            Mutation::OnlyFirstCompared => over && cost == self.first_cost,
+            _ => over,
         }
     }
 

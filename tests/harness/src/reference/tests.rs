@@ -79,7 +79,7 @@ fn a_piece_with_both_kinds_of_edge_stays() {
 
 #[test]
 fn four_squares() {
-    let three = (vec![0, 1, 2, 0], [1, 0, 10, 9], true);
+    let three = (vec![0, 1, 2, 0], [1, 0, 10, 0], true);
     assert_eq!(outcome(&layer(3, 100, &SQUARES)), three);
     let four = (vec![3, 2, 1, 0], [0, 0, 0, 0], true);
     assert_eq!(outcome(&layer(4, 100, &SQUARES)), four);

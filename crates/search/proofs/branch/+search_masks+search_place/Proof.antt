@@ -1,9 +1,10 @@
 -- The search: each of its two functions does what the rules say of a place and of its masks, given that calls further on do. The calls fall
 -- in the places and masks left, and the loop over a place's masks in the masks left. Assumes nothing.
 use native.Mathlib.Omega.{arith}
+use mathlib.Core.Bool.{cond}
 use mathlib.Core.List.{List}
 use mathlib.Core.Logic.{_⊎_, inl, inr, ⊎-elim}
-use mathlib.Core.Path.{_≡_, refl, sym, subst, subst⁻¹, _∙_}
+use mathlib.Core.Path.{_≡_, sym, subst, subst⁻¹, _∙_}
 use Prim.Native.Nat.{ℕ, _+_, _-_, _*_, _≤_, _<_}
 use denote.Ref.{now}
 use lib.ListN.{getD, take, set}
@@ -13,9 +14,9 @@ use Rattle.rules.specs.Basics.{upFrom}
 use Rattle.rules.specs.Search.{candidatesIn}
 use Rattle.rows.specs.Weights.{fixedBehind, Weights}
 use Rattle.rows.proofs.Tables.{weights-own}
-use Rattle.search.specs.Branch.{sizeIn, masksIn, fixedIn, triedIn, Ready, RowOf, Placed, Masked}
+use Rattle.search.specs.Branch.{sizeIn, masksIn, endedIn, foundIn, fixedIn, triedIn, Ready, RowOf, Placed, Masked}
 use Rattle.search.proofs.FixedPlaces.{own-low, tried-at}
-use Rattle.search.proofs.Moves.{row-of, ready-next, added-small, masked-none, masked-stop, masked-skip, kept-below, masked-enter, Went, went-as, MasksLeft, masks-all, masks-next, placed-masks, placed-last}
+use Rattle.search.proofs.Moves.{row-of, goes-on, ready-next, added-small, masked-none, masked-due, kept-skip, masked-skip, kept-below, masked-enter, Went, went-as, MasksLeft, masks-all, masks-next, placed-masks, placed-last}
 use borrow.Fn.Kinds.{In}
 use borrow.Fn.PlainCycle.{Measures, is, falls, and}
 use Rattle.search.proofs.branch.search_masks.Reads as search-masks
@@ -24,9 +25,9 @@ use Rattle.search.proofs.branch.+search_masks+search_place.Lts-search_m
 use Rattle.search.proofs.branch.search_place.Reads as search-place
 use Rattle.search.proofs.branch.search_place.Kinds as search-place-kinds
 use Rattle.search.proofs.branch.+search_masks+search_place.Lts-search_place as search-place-lts
-use Rattle.search.proofs.branch.hold.Reads as hold-reads
+use Rattle.search.proofs.incumbent.hold_found.Reads as hold-found-reads
 use Rattle.first_assignment.proofs.put.Reads as put-reads
-use Rattle.search.proofs.branch.store.Reads as store-reads
+use Rattle.search.proofs.incumbent.note_due.Reads as note-due-reads
 use Rattle.rows.proofs.added_row.Reads as added-row-reads
 use Rattle.search.proofs.branch.+search_masks+search_place.{statement}
 use Rattle.search.proofs.branch.+search_masks+search_place.Tie.{close}
@@ -72,8 +73,8 @@ module _ (t : ℕ) where
   -- what the callees ask and tell; within the pair, below the measure t
   abbrev search-masks-told : search-masks-lts.Claims
   search-masks-told = (
-    store-reads.Asked,
-    store-reads.Learnt,
+    note-due-reads.Asked,
+    note-due-reads.Learnt,
     put-reads.Asked,
     put-reads.Learnt,
     search-place-below t,
@@ -82,10 +83,8 @@ module _ (t : ℕ) where
 
   abbrev search-place-told : search-place-lts.Claims
   search-place-told = (
-    hold-reads.Asked,
-    hold-reads.Learnt,
-    store-reads.Asked,
-    store-reads.Learnt,
+    hold-found-reads.Asked,
+    hold-found-reads.Learnt,
     added-row-reads.Asked,
     added-row-reads.Learnt,
     search-masks-below t,
@@ -148,7 +147,7 @@ module _ (t : ℕ) where
         (λ w.
         went-as (w .1) (w .2) (w .3) (w .4)
         record {
-          kept = record { before = refl; whole = ready .whole; numbered = ready .numbered; constants = λ i h. refl; fewer = omega arith };
+          kept = kept-skip (a .starts .now) (a .list .now) (fixedBehind (a .table .now)) (l .partial) (l .incumbent) (l .numbers) (a .p) (a .cost) (a .used) (l .rest) (l .mask) (l .untried) ready (adds tried) (some tried) (afford tried) row;
           on = masked-skip (a .starts .now) (a .list .now) (fixedBehind (a .table .now)) (l .partial) (l .incumbent) (l .numbers) (a .p) (a .cost) (a .used) (l .rest) (l .mask) (l .untried) ready (adds tried) (some tried) (afford tried) row (w .0 .left);
         })
         (c .if2 .came)
@@ -156,8 +155,8 @@ module _ (t : ℕ) where
   search-masks-loop-holds : search-masks-lts.Need-loop-holds search-masks-told (search-masks-at t) search-masks.Post Inv-loop μ-loop
   search-masks-loop-holds c = let pre = c .pre .1 in masks-all (pre .0) (pre .1 .0) (pre .1 .1 .0 .0) (pre .1 .1 .0 .1)
 
-  search-masks-store-requires : search-masks-lts.Need-store-requires search-masks-told (search-masks-at t) search-masks.Post Inv-loop μ-loop
-  search-masks-store-requires c κs = omega arith
+  search-masks-note-due-requires : search-masks-lts.Need-note-due-requires search-masks-told (search-masks-at t) search-masks.Post Inv-loop μ-loop
+  search-masks-note-due-requires c κs = search needs
 
   search-masks-returns : search-masks-lts.Need-returns search-masks-told (search-masks-at t) search-masks.Post Inv-loop μ-loop
   search-masks-returns c =
@@ -165,8 +164,8 @@ module _ (t : ℕ) where
       let l = c .before .before .before .before .loop in
       let a = c .before .before .before .before .before .args in
       l .inv .on
-      (subst⁻¹ (λ (ns : List ℕ). Masked (a .starts .now) (a .list .now) (fixedBehind (a .table .now)) (l .partial) (l .partial) (l .incumbent) (l .incumbent) (l .numbers) ns (a .p) (a .cost) (l .rest) (l .mask) (l .untried) 0) (c .store .ensures)
-      (masked-stop (a .starts .now) (a .list .now) (fixedBehind (a .table .now)) (l .partial) (l .incumbent) (l .numbers) (a .p) (a .cost) (a .used) (l .rest) (l .mask) (l .untried) (l .inv .ready) (omega (arith, spent .before .loop-test .taken)) (spent .if1 .taken)))
+      (subst⁻¹ (λ (ns : List ℕ). Masked (a .starts .now) (a .list .now) (fixedBehind (a .table .now)) (l .partial) (l .partial) (l .incumbent) (l .incumbent) (l .numbers) ns (a .p) (a .cost) (l .rest) (l .mask) (l .untried) 0) (c .note-due .ensures)
+      (masked-due (a .starts .now) (a .list .now) (fixedBehind (a .table .now)) (l .partial) (l .incumbent) (l .numbers) (a .p) (a .cost) (a .used) (l .rest) (l .mask) (l .untried) (l .inv .ready) (omega (arith, spent .before .loop-test .taken)) (spent .if1 .taken)))
 
   search-masks-mul-total : search-masks-lts.Need-mul-total search-masks-told (search-masks-at t) search-masks.Post Inv-loop μ-loop
   search-masks-mul-total c = omega (arith, low c)
@@ -222,7 +221,7 @@ module _ (t : ℕ) where
         omega (arith, s .pre .0, l .inv .place, l .inv .size),
         (
           subst⁻¹ (λ (x : List ℕ). Ready (a .starts .now) (a .list .now) (fixedBehind (a .table .now)) x (l .numbers) (a .p + 1) (a .cost + adds over) (join .if3 .next) (l .rest - 1)) (join .before .put .ensures) next,
-          subst⁻¹ (Weights (a .table .now)) (l .inv .weight) (s .pre .1 .1 .1 .1),
+          (subst⁻¹ (Weights (a .table .now)) (l .inv .weight) (s .pre .1 .1 .1 .1), goes-on ready (afford over)),
         ),
       )
 
@@ -278,21 +277,20 @@ module _ (t : ℕ) where
   search-place-element-copy-out-if1 : search-place-lts.Need-element-copy-out-if1 search-place-told (search-place-at t) search-place.Post
   search-place-element-copy-out-if1 c = omega arith
 
-  search-place-hold-requires : search-place-lts.Need-hold-requires search-place-told (search-place-at t) search-place.Post
-  search-place-hold-requires c κs = search needs
-
-  search-place-store-requires : search-place-lts.Need-store-requires search-place-told (search-place-at t) search-place.Post
-  search-place-store-requires c κs = omega arith
+  search-place-hold-found-requires : search-place-lts.Need-hold-found-requires search-place-told (search-place-at t) search-place.Post
+  search-place-hold-found-requires c κs = search needs
 
   search-place-returns : search-place-lts.Need-returns search-place-told (search-place-at t) search-place.Post
   search-place-returns c =
-      let held = c .before .before in
-      let past = held .before .before .before in
+      let past = c .before .before .before .before in
       let s = past .before .before in
       let a = s .args in
-      let last = placed-last (a .starts .now) (a .list .now) (fixedBehind (a .table .now)) (a .partial .now) (a .incumbent .now) (a .numbers .now) (a .p) (a .cost) (a .used) (a .left) (s .pre .1 .0) (past .if1 .taken) in
-      subst⁻¹ (λ (ns : List ℕ). Placed (a .starts .now) (a .list .now) (fixedBehind (a .table .now)) (a .partial .now) (a .partial .now) (a .incumbent .now) (held .hold .last .1 .0) (a .numbers .now) ns (a .p) (a .cost) (a .left) (a .left)) (c .store .ensures)
-      (subst⁻¹ (λ (l : List ℕ). Placed (a .starts .now) (a .list .now) (fixedBehind (a .table .now)) (a .partial .now) (a .partial .now) (a .incumbent .now) l (a .numbers .now) (set (a .numbers .now) 0 (a .cost)) (a .p) (a .cost) (a .left) (a .left)) (held .hold .ensures) last)
+      let told = c .hold-found .ensures in
+      let Found : List ℕ → List ℕ → ℕ → Type 0 = λ held ns rest. Placed (a .starts .now) (a .list .now) (fixedBehind (a .table .now)) (a .partial .now) (a .partial .now) (a .incumbent .now) held (a .numbers .now) ns (a .p) (a .cost) (a .left) rest in
+      let last = placed-last (a .starts .now) (a .list .now) (fixedBehind (a .table .now)) (a .partial .now) (a .incumbent .now) (a .numbers .now) (a .p) (a .cost) (a .used) (a .left) (s .pre .1 .0) (s .pre .1 .1 .1) (past .if1 .taken) in
+      subst⁻¹ (λ (rest : ℕ). Found (c .hold-found .last .1 .0) (c .hold-found .last .1 .1 .0) rest) (told .1 .1)
+      (subst⁻¹ (λ (ns : List ℕ). Found (c .hold-found .last .1 .0) ns (cond (endedIn (a .numbers .now) (a .cost)) 0 (a .left))) (told .1 .0)
+      (subst⁻¹ (λ (held : List ℕ). Found held (foundIn (a .numbers .now) (a .cost) (a .left)) (cond (endedIn (a .numbers .now) (a .cost)) 0 (a .left))) (told .0) last))
 
   search-place-added-row-requires : search-place-lts.Need-added-row-requires search-place-told (search-place-at t) search-place.Post
   search-place-added-row-requires c κs =
@@ -300,7 +298,7 @@ module _ (t : ℕ) where
       let s = here .before .before in
       let ready = s .pre .1 .0 in (
         (omega (arith, here .if1 .left, ready .few), omega (arith, ready .whole, ready .at, ready .few)),
-        (weights-own (s .pre .1 .1), (ready .lists (s .args .p) (here .if1 .left), ready .low)),
+        (weights-own (s .pre .1 .1 .0), (ready .lists (s .args .p) (here .if1 .left), ready .low)),
       )
 
   search-place-element-copy-out-masks : search-place-lts.Need-element-copy-out-masks search-place-told (search-place-at t) search-place.Post
@@ -343,9 +341,9 @@ module _ (t : ℕ) where
       let a = s .args in
       let told = join .before .before .before .before .added-row in
       let row : RowOf (a .starts .now) (a .list .now) (a .partial .now) (a .numbers .now) (a .p) (told .result)
-      = row-of (s .pre .1 .1) (told .ensures) (λ m h. added-small (s .pre .1 .0) (entered join .if1 .left) m) in (
+      = row-of (s .pre .1 .1 .0) (told .ensures) (λ m h. added-small (s .pre .1 .0) (entered join .if1 .left) m) in (
         omega (arith, s .pre .0, masks-tried join .0, s .pre .1 .0 .masks),
-        (s .pre .1 .0, (row, ((entered join .if1 .left, masks-tried join .0), s .pre .1 .1))),
+        (s .pre .1 .0, (row, ((entered join .if1 .left, masks-tried join .0), s .pre .1 .1 .0))),
       )
 
   search-place-returns-2 : search-place-lts.Need-returns-2 search-place-told (search-place-at t) search-place.Post
@@ -362,7 +360,7 @@ pub +search-masks+search-place-spec : {M : Type 1} → statement M
     Inv-loop
     μ-loop
     (search-masks-loop-holds t)
-    (search-masks-store-requires t)
+    (search-masks-note-due-requires t)
     (search-masks-returns t)
     (search-masks-mul-total t)
     (search-masks-element-copy-out-total t)
@@ -385,8 +383,7 @@ pub +search-masks+search-place-spec : {M : Type 1} → statement M
     (search-place-at t)
     search-place.Post
     (search-place-element-copy-out-if1 t)
-    (search-place-hold-requires t)
-    (search-place-store-requires t)
+    (search-place-hold-found-requires t)
     (search-place-returns t)
     (search-place-added-row-requires t)
     (search-place-element-copy-out-masks t)
