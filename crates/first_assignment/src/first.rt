@@ -3,7 +3,7 @@ ghost use mathlib.Core.Bool.{not, cond};
 ghost use mathlib.Core.Path.{_≡_};
 ghost use Prim.Native.Nat.{ℕ, _≤_, _<_};
 ghost use lib.Dec.{eqb};
-ghost use lib.ListN.{length, getD, set};
+ghost use lib.ListN.{length, getD};
 ghost use Rattle.rules.specs.Basics.{upTo, anyOf};
 ghost use Rattle.rules.specs.Settings.{unset};
 ghost use Rattle.rules.specs.Peeling.{isFixed};
@@ -11,17 +11,9 @@ ghost use Rattle.rules.specs.Search.{cheapest};
 ghost use Rattle.places.specs.Local.{PlaceLists};
 ghost use Rattle.rows.specs.Weights.{weightOf, Weights};
 ghost use Rattle.first_assignment.specs.First.{fixedTo, FixedLow, FirstOf};
+use places::put;
 use rows::added_row;
 use rules::Piece;
-
-// Stores a mask at a place.
-pub fn put(partial: &mut [u8; 512], i: usize, m: u8)
-    requires { ⌜ i < 512 ⌝ }
-    ensures { λ _. ⌜ now (partial .exit) ≡ set (now (partial .entry)) i m ⌝ }
-{
-    let all: &mut [u8] = partial;
-    all[i] = m;
-}
 
 // The mask at which the row is least, the lowest on a tie.
 fn cheapest_mask(row: &[u32; 8], masks: u64) -> u64

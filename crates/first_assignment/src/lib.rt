@@ -4,4 +4,3 @@ mod first;
 
 pub use first::first_assignment;
 pub use first::has_fixed;
-pub use first::put;

@@ -6,7 +6,7 @@ ghost use lib.ListN.{length, getD, take, set};
 ghost use Rattle.adjacency.specs.UnitGraph.{fixedAt};
 
 // Stores a mask.
-fn put(masks: &mut [u8; 512], at: usize, m: u8)
+pub fn put(masks: &mut [u8; 512], at: usize, m: u8)
     requires { ⌜ at < 512 ⌝ }
     ensures { λ _. ⌜ now (masks .exit) ≡ set (now (masks .entry)) at m ⌝ }
 {

@@ -7,6 +7,7 @@ mod lists;
 mod order;
 
 pub use fixed::local_fixed;
+pub use fixed::put;
 pub use lists::lay_out;
 pub use order::list_members;
 pub use order::put_masks;

@@ -12,7 +12,7 @@ ghost use Rattle.rows.specs.Weights.{Weights, fixedBehind};
 ghost use Rattle.search.specs.Branch.{Ready, RowOf, Placed, Masked, sizeIn, weightIn, triedIn, hasEnded};
 use crate::incumbent::hold_found;
 use crate::incumbent::note_due;
-use first_assignment::put;
+use places::put;
 use rows::added_row;
 use rules::Piece;
 

@@ -1,11 +1,12 @@
 -- Properties that every number of a list has, by recursion on the list, and lists mapped number by number. Assumes nothing.
 use mathlib.Core.List.{List, [], _∷_, _++_, map}
-use mathlib.Core.Path.{_≡_, refl}
+use mathlib.Core.Path.{_≡_, refl, subst⁻¹}
 use Prim.Native.Nat.{ℕ, zero, suc, _+_, _<_}
 use native.Mathlib.Nat.{not-suc-le-zero, le-of-suc-le-suc}
 use native.Mathlib.Omega.{arith}
 use lib.ListN.{length, getD, take, replicate}
 use Rattle.rules.specs.Basics.{upFrom}
+use Rattle.rules.proofs.Lists.{_∈_, here, later}
 
 -- every number of the list has the property
 abbrev pub Each : (ℕ → Type 0) → List ℕ → Type 0
@@ -62,3 +63,12 @@ pub each-take : (P : ℕ → Type 0) (n : ℕ) (xs : List ℕ) → Each P xs →
 each-take P zero xs e = tt
 each-take P (suc n) [] e = tt
 each-take P (suc n) (x ∷ xs) e = (e .0, each-take P n xs (e .1))
+
+-- a property of each is one of every member
+pub each-in : {P : ℕ → Type 0} (xs : List ℕ) → ((m : ℕ) → m ∈ xs → P m) → Each P xs
+each-in [] f = tt
+each-in (x ∷ xs) f = (f x (here refl), each-in xs (λ m i. f m (later i)))
+
+pub each-has : (P : ℕ → Type 0) {m : ℕ} {xs : List ℕ} → m ∈ xs → Each P xs → P m
+each-has P (here e) h = subst⁻¹ P e (h .0)
+each-has P (later i) h = each-has P i (h .1)

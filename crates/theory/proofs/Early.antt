@@ -3,7 +3,7 @@
 -- Assumes nothing.
 use mathlib.Core.Bool.{Bool, true}
 use mathlib.Core.List.{List, [], _∷_, _++_}
-use mathlib.Core.Path.{_≡_, refl, sym, ap, subst⁻¹, _∙_}
+use mathlib.Core.Path.{_≡_, refl, sym, ap, _∙_}
 use mathlib.Core.Option.{none}
 use mathlib.Core.Logic.{_⊎_, inl, inr}
 use Prim.Native.Nat.{ℕ, zero, suc, _+_, _≤_, _<_}
@@ -14,15 +14,11 @@ use Rattle.rules.specs.Edges.{Graph}
 use Rattle.rules.specs.Peeling.{isFixed}
 use Rattle.rules.specs.Search.{added, candidatesIn, totalAfter, State, step, tryMasks, searchPlaces, atBound, searchFrom}
 use Rattle.rules.proofs.Lists.{_∈_, here, later}
-use Rattle.theory.proofs.Each.{Each}
+use Rattle.theory.proofs.Each.{Each, each-in, each-has}
 use Rattle.theory.proofs.Search.{at-end, at-stop, at-enter, at-skip, by-tests, tries-keeps, Allowed, Sparing}
 use Rattle.theory.proofs.Budget.{ends, start, searchUntil}
 use Rattle.theory.proofs.Fixed.{May, candidates-may}
 use Rattle.theory.proofs.Library.{library-spares}
-
-each-in : {P : ℕ → Type 0} (xs : List ℕ) → ((m : ℕ) → m ∈ xs → P m) → Each P xs
-each-in [] f = tt
-each-in (x ∷ xs) f = (f x (here refl), each-in xs (λ m i. f m (later i)))
 
 -- y has gone on from x: the same incumbent, no fewer steps, stopped if x is
 pub record Beyond (x y : State) : Type 0 where
@@ -101,10 +97,6 @@ module _ (add : List ℕ → ℕ → ℕ) (cands : List ℕ → List ℕ) (ended
         along-beyond (inr a) = a .1
 
 -- ---- The search of a component
-
-each-has : (P : ℕ → Type 0) {m : ℕ} {xs : List ℕ} → m ∈ xs → Each P xs → P m
-each-has P (here e) h = subst⁻¹ P e (h .0)
-each-has P (later i) h = each-has P i (h .1)
 
 module _ (K weight : ℕ) (g : Graph) (fixed : ℕ → ℕ) (k : ℕ) (some : 0 < K) (low : (i : ℕ) → i < k → isFixed fixed i ≡ true → fixed i < K) where
   allowed-below : (p q : List ℕ) → length p + length q ≡ k → Allowed (candidatesIn K fixed k) p q → Each (λ m. m < K) q

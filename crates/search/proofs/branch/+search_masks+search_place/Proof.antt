@@ -26,7 +26,7 @@ use Rattle.search.proofs.branch.search_place.Reads as search-place
 use Rattle.search.proofs.branch.search_place.Kinds as search-place-kinds
 use Rattle.search.proofs.branch.+search_masks+search_place.Lts-search_place as search-place-lts
 use Rattle.search.proofs.incumbent.hold_found.Reads as hold-found-reads
-use Rattle.first_assignment.proofs.put.Reads as put-reads
+use Rattle.places.proofs.put.Reads as put-reads
 use Rattle.search.proofs.incumbent.note_due.Reads as note-due-reads
 use Rattle.rows.proofs.added_row.Reads as added-row-reads
 use Rattle.search.proofs.branch.+search_masks+search_place.{statement}
