@@ -10,7 +10,7 @@ use rules::{Edge, Piece, Settings};
 
 // Where the reach of a piece ends, the spacing away from it: in X the left end, negated, and the right end, in Y the lower end, negated, and the upper end. To each
 // 1,000,000 is added, so that none is negative.
-#[derive(Drop)]
+#[derive(Clone, Copy)]
 pub struct Reach {
     pub left: u32,
     pub right: u32,

@@ -4,6 +4,8 @@
 //
 // Contracts say what is a member afterwards, for every number, so no caller looks at words. A word that is stored is stored
 // through a slice, which carries its length.
+#![tactic(auto)]
+
 ghost use Rattle.std.specs.Prelude.{◌≡◌, ◌&&◌, ◌||◌, not, false, ℕ, ◌<◌, ◌≤◌, eqb, ltb};
 ghost use Rattle.bitset.specs.Bits.{bit, member, has_edge, both, rows_without, count_below, Empty, Size, First, LowestSet, Dropped, Lowest, WithMask};
 

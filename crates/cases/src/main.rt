@@ -1,41 +1,36 @@
 // Runs the worked cases of RULES 13, 17 and 18 through the calls, and reports of each whether it came out as stated there: those that are
 // stored as texts, and the gaps and contacts.
+#![tactic(auto)]
+
 ghost use Rattle.std.specs.Prelude.{◌<◌};
 
-use files::read_file;
-use libc::STDOUT_FILENO;
+use files::{argument, argument_count, read_file};
 use rules::{Edge, EdgeAnswer, Piece, Place, Refusal, Settings, WriteAnswer};
+use std::io;
+use std::rt::{Env, Files};
 
 // ---- how a case came out: a line with its name, and what came instead where it is not what is stated
 
-fn write(text: &[u8]) {
-    io::write_all(STDOUT_FILENO, text);
-}
-
-fn write_number(n: u32) {
-    io::print_decimal(STDOUT_FILENO, n as u64);
-}
-
-fn as_stated(name: &[u8]) {
-    write(name);
-    write(b": as stated\n");
+fn as_stated(rt: &impl Print, name: &[u8]) -> io::Result<()> {
+    rt.write_all(name)?;
+    println!(rt; ": as stated")
 }
 
 // A text that came instead.
-fn other_text(name: &[u8], text: &[u8]) {
-    write(name);
-    write(b": DIFFERS\n");
-    write(text);
+fn other_text(rt: &impl Print, name: &[u8], text: &[u8]) -> io::Result<()> {
+    rt.write_all(name)?;
+    println!(rt; ": DIFFERS")?;
+    rt.write_all(text)
 }
 
 // A refusal that came instead.
-fn other_refusal(name: &[u8], refusal: Refusal, place: Place) {
-    write(name);
-    write(b": DIFFERS: refused=");
-    write_number(refusal.number());
-    write(b",");
-    write_number(place.number());
-    write(b"\n");
+fn other_refusal(rt: &impl Print, name: &[u8], refusal: Refusal, place: Place) -> io::Result<()> {
+    rt.write_all(name)?;
+    println!(rt;
+        ": DIFFERS: refused={},{}",
+        refusal.number(),
+        place.number()
+    )
 }
 
 // Whether a refusal has this number and place.
@@ -44,76 +39,109 @@ fn is_refusal(refusal: Refusal, place: Place, number: u32, at: u32) -> bool {
 }
 
 // Reports a refusal that was to have this number and place.
-fn report_refusal(name: &[u8], refusal: Refusal, place: Place, number: u32, at: u32) {
+fn report_refusal(
+    rt: &impl Print,
+    name: &[u8],
+    refusal: Refusal,
+    place: Place,
+    number: u32,
+    at: u32,
+) -> io::Result<()> {
     if is_refusal(refusal, place, number, at) {
-        as_stated(name);
+        as_stated(rt, name)
     } else {
-        other_refusal(name, refusal, place);
+        other_refusal(rt, name, refusal, place)
+    }
+}
+
+// Reports a text that was to be the one that is wanted.
+fn same(rt: &impl Print, name: &[u8], came: &[u8], wanted: &[u8]) -> io::Result<()> {
+    if came == wanted {
+        as_stated(rt, name)
+    } else {
+        other_text(rt, name, came)
     }
 }
 
 // ---- texts: for every two arguments, a layer text and what `layer` is to print for it
 
 // Compares the text of this size that stands at the front of the buffer.
-fn compare(name: &[u8], buffer: &[u8], size: usize, wanted: &[u8]) {
+fn compare(
+    rt: &impl Print,
+    name: &[u8],
+    buffer: &[u8],
+    size: usize,
+    wanted: &[u8],
+) -> io::Result<()> {
     if buffer.len() < size {
-        other_text(name, buffer);
-        return;
+        return other_text(rt, name, buffer);
     }
-    let text = &buffer[..size];
-    if check::same(text, wanted) {
-        as_stated(name);
-    } else {
-        other_text(name, text);
-    }
+    same(rt, name, &buffer[..size], wanted)
 }
 
 // Compares a refusal with the line that states one.
-fn compare_refusal(name: &[u8], question: Refusal, place: Place, wanted: &[u8]) {
+fn compare_refusal(
+    rt: &impl Print,
+    name: &[u8],
+    question: Refusal,
+    place: Place,
+    wanted: &[u8],
+) -> io::Result<()> {
     let stated = lines::read_line(wanted, b"refused=", 2);
     if stated.good {
-        report_refusal(name, question, place, stated.values[0], stated.values[1]);
+        report_refusal(
+            rt,
+            name,
+            question,
+            place,
+            stated.values[0],
+            stated.values[1],
+        )
     } else {
-        other_refusal(name, question, place);
+        other_refusal(rt, name, question, place)
     }
 }
 
-fn run_case(name: &[u8], text: &[u8], buffer: &mut [u8], wanted: &[u8]) {
+fn run_case(
+    rt: &impl Print,
+    name: &[u8],
+    text: &[u8],
+    buffer: &mut [u8],
+    wanted: &[u8],
+) -> io::Result<()> {
     match loader::decompose_text(text, buffer) {
-        WriteAnswer::Written(size) => compare(name, buffer, size, wanted),
-        WriteAnswer::Refused(question, place) => compare_refusal(name, question, place, wanted),
+        WriteAnswer::Written(size) => compare(rt, name, buffer, size, wanted),
+        WriteAnswer::Refused(question, place) => compare_refusal(rt, name, question, place, wanted),
     }
 }
 
-fn run_files(layer: &[u8], res: &[u8]) {
-    let mut text = io::large_buffer();
-    let mut wanted = io::buffer();
-    let mut buffer = io::buffer();
-    let text_read = read_file(layer, &mut text);
-    let wanted_read = read_file(res, &mut wanted);
+fn run_files(rt: &(impl Files + Print + Eprint), layer: &[u8], res: &[u8]) -> io::Result<()> {
+    let mut text = [0u8; 65_536];
+    let mut wanted = [0u8; 4_096];
+    let mut buffer = [0u8; 4_096];
+    let text_read = read_file(rt, layer, &mut text);
+    let wanted_read = read_file(rt, res, &mut wanted);
     let n = text_read.bytes;
     let m = wanted_read.bytes;
-    run_case(layer, &text[..n], &mut buffer, &wanted[..m]);
+    run_case(rt, layer, &text[..n], &mut buffer, &wanted[..m])
 }
 
 // The case of arguments i and i + 1.
-fn run_arguments(i: usize)
+fn run_arguments(rt: &(impl Env + Files + Print + Eprint), i: usize) -> io::Result<()>
     requires { i < 18446744073709551615 }
 {
-    let mut layer = io::buffer();
-    let mut result = io::buffer();
-    let n = os::arg(i, &mut layer);
-    let m = os::arg(i + 1, &mut result);
-    run_files(&layer[..n], &result[..m]);
+    let mut layer = [0u8; 4_096];
+    let mut result = [0u8; 4_096];
+    let n = argument(rt, i, &mut layer);
+    let m = argument(rt, i + 1, &mut result);
+    run_files(rt, &layer[..n], &result[..m])
 }
 
-fn texts() {
-    let pairs = os::arg_count() / 2;
-    let mut k = 0;
-    while k < pairs {
-        run_arguments(2 * k + 1);
-        k += 1;
+fn texts(rt: &(impl Env + Files + Print + Eprint)) -> io::Result<()> {
+    for k in 0..argument_count(rt) / 2 {
+        run_arguments(rt, 2 * k + 1)?;
     }
+    Ok(())
 }
 
 // ---- gaps and contacts, by the call for two pieces
@@ -129,25 +157,24 @@ fn settings() -> Settings {
 }
 
 // The name of an edge.
-fn named(name: &[u8], edge: Edge, wanted: &[u8]) {
+fn named(rt: &impl Print, name: &[u8], edge: Edge, wanted: &[u8]) -> io::Result<()> {
     match edge {
-        Edge::Conflict => same(name, b"conflict\n", wanted),
-        Edge::Stitch => same(name, b"stitch\n", wanted),
-        Edge::Tie => same(name, b"tie\n", wanted),
-        Edge::None => same(name, b"none\n", wanted),
-    }
-}
-
-fn same(name: &[u8], came: &[u8], wanted: &[u8]) {
-    if check::same(came, wanted) {
-        as_stated(name);
-    } else {
-        other_text(name, came);
+        Edge::Conflict => same(rt, name, b"conflict\n", wanted),
+        Edge::Stitch => same(rt, name, b"stitch\n", wanted),
+        Edge::Tie => same(rt, name, b"tie\n", wanted),
+        Edge::None => same(rt, name, b"none\n", wanted),
     }
 }
 
 // The edge between a square of 20 nm at the corner, of shape 0, and a piece that begins at (x, y).
-fn joined(name: &[u8], shape: u32, x: u32, y: u32, wanted: &[u8]) {
+fn joined(
+    rt: &impl Print,
+    name: &[u8],
+    shape: u32,
+    x: u32,
+    y: u32,
+    wanted: &[u8],
+) -> io::Result<()> {
     let square = Piece {
         shape: 0,
         x1: 0,
@@ -166,23 +193,23 @@ fn joined(name: &[u8], shape: u32, x: u32, y: u32, wanted: &[u8]) {
     };
     let answer = edge_call::edge(settings(), square, other);
     match answer {
-        EdgeAnswer::Found(edge) => named(name, edge, wanted),
-        EdgeAnswer::Refused(refusal, place) => other_refusal(name, refusal, place),
+        EdgeAnswer::Found(edge) => named(rt, name, edge, wanted),
+        EdgeAnswer::Refused(refusal, place) => other_refusal(rt, name, refusal, place),
     }
 }
 
-fn edges() {
-    joined(b"gaps 79 and 0", 1, 99, 0, b"conflict\n");
-    joined(b"gaps 80 and 0", 1, 100, 0, b"none\n");
-    joined(b"gaps 48 and 63", 1, 68, 83, b"conflict\n");
-    joined(b"gaps 48 and 64", 1, 68, 84, b"none\n");
-    joined(b"shapes that overlap", 1, 10, 10, b"conflict\n");
-    joined(b"contact 10", 0, 20, 10, b"stitch\n");
-    joined(b"contact 9", 0, 20, 11, b"tie\n");
-    joined(b"contact at a point", 0, 20, 20, b"none\n");
+fn edges(rt: &impl Print) -> io::Result<()> {
+    joined(rt, b"gaps 79 and 0", 1, 99, 0, b"conflict\n")?;
+    joined(rt, b"gaps 80 and 0", 1, 100, 0, b"none\n")?;
+    joined(rt, b"gaps 48 and 63", 1, 68, 83, b"conflict\n")?;
+    joined(rt, b"gaps 48 and 64", 1, 68, 84, b"none\n")?;
+    joined(rt, b"shapes that overlap", 1, 10, 10, b"conflict\n")?;
+    joined(rt, b"contact 10", 0, 20, 10, b"stitch\n")?;
+    joined(rt, b"contact 9", 0, 20, 11, b"tie\n")?;
+    joined(rt, b"contact at a point", 0, 20, 20, b"none\n")
 }
 
-fn main() {
-    texts();
-    edges();
+fn main(rt: HostRuntime) -> io::Result<()> {
+    texts(&rt)?;
+    edges(&rt)
 }

@@ -1,5 +1,7 @@
 // The component of a vertex, on adjacency words (RULES 5). Every vertex that comes in waits in the frontier until its row has
 // been looked at, so each row is looked at once, and no list of vertices is walked for each of them.
+#![tactic(auto)]
+
 ghost use Rattle.std.specs.Prelude.{true, ◌≡◌, ◌<◌};
 ghost use Rattle.bitset.specs.Bits.{member};
 ghost use Rattle.adjacency.specs.Adjacency.{BothWays};

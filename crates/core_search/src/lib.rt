@@ -3,6 +3,8 @@
 //
 // The numbers of a search are those of `search`: at 0 the incumbent's cost, at 1 whether a step was due beyond the budget (1 if so), at 2 how many
 // places there are, at 3 the masks, at 4 the weight, at 5 the budget, at 6 where the search ends, at 7 the steps left then.
+#![tactic(auto)]
+
 ghost use Rattle.std.specs.Prelude.{◌≡◌, length, set};
 ghost use Rattle.core_search.specs.Core.{Words, Given, OneSearched, CoreSearched};
 ghost use Rattle.adjacency.specs.UnitGraph.{unit_graph, fixed_at};

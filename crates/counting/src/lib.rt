@@ -1,5 +1,7 @@
 // What masks score by adjacency words (RULES 3). Only edges are visited, each from its greater number. An edge with an end that is not set counts for nothing. The
 // decomposition counts its result by this, and scoring stands on the count of one edge.
+#![tactic(auto)]
+
 ghost use Rattle.std.specs.Prelude.{◌≡◌, ◌<◌, ◌≤◌, length};
 ghost use Rattle.rules.specs.Basics.{given, sum_to};
 ghost use Rattle.rules.specs.Score.{score_of, cost_of};

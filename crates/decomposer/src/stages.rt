@@ -9,7 +9,7 @@ ghost use Rattle.decomposer.specs.Stages.{HasPlaces, HasFixed, SearchedCore, Dec
 use rules::Settings;
 
 // What the search tells beside the masks.
-#[derive(Drop)]
+#[derive(Clone, Copy)]
 pub struct Searched {
     pub steps: u32,
     pub stopped: bool,

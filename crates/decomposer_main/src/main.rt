@@ -1,19 +1,12 @@
 // Decomposes a made layer for every four arguments: masks, seed, pieces and budget. What it writes is compared with the file stdout, and
 // bench/ measures it.
+#![tactic(auto)]
+
 ghost use Rattle.std.specs.Prelude.{◌+◌, ◌<◌, ◌≤◌, length};
 
-use libc::STDOUT_FILENO;
 use rules::{DecomposeAnswer, Decomposition, Piece, Place, Refusal, Settings, Verdict};
-
-fn write(text: &[u8]) {
-    io::write_all(STDOUT_FILENO, text);
-}
-
-// A label and a number.
-fn write_value(label: &[u8], n: u32) {
-    write(label);
-    io::print_decimal(STDOUT_FILENO, n as u64);
-}
+use std::io;
+use std::rt::Env;
 
 fn settings(masks: u32, budget: u32) -> Settings {
     Settings {
@@ -38,31 +31,30 @@ fn piece(shape: u32, x1: u32, y1: u32, x2: u32, y2: u32) -> Piece {
 
 // ---- lines
 
-fn write_verdict(verdict: Verdict) {
+fn write_verdict(rt: &impl Print, verdict: Verdict) -> io::Result<()> {
     match verdict {
-        Verdict::Best => write(b" best"),
-        Verdict::Open => write(b" open"),
+        Verdict::Best => print!(rt; " best"),
+        Verdict::Open => print!(rt; " open"),
     }
 }
 
-fn write_run(run: Decomposition) {
-    write_value(b"conflicts=", run.conflicts);
-    write_value(b" stitches=", run.stitches);
-    write_value(b" cost=", run.cost);
-    write_value(b" steps=", run.steps);
+fn write_run(rt: &impl Print, run: Decomposition) -> io::Result<()> {
+    print!(rt;
+        "conflicts={} stitches={} cost={} steps={}",
+        run.conflicts, run.stitches, run.cost, run.steps
+    )?;
     let verdict = run.verdict;
-    write_verdict(verdict);
+    write_verdict(rt, verdict)
 }
 
-fn write_refusal(refusal: Refusal, place: Place) {
-    write_value(b"refused=", refusal.number());
-    write_value(b",", place.number());
+fn write_refusal(rt: &impl Print, refusal: Refusal, place: Place) -> io::Result<()> {
+    print!(rt; "refused={},{}", refusal.number(), place.number())
 }
 
-fn write_answer(answer: DecomposeAnswer) {
+fn write_answer(rt: &impl Print, answer: DecomposeAnswer) -> io::Result<()> {
     match answer {
-        DecomposeAnswer::Decomposed(run) => write_run(run),
-        DecomposeAnswer::Refused(refusal, place) => write_refusal(refusal, place),
+        DecomposeAnswer::Decomposed(run) => write_run(rt, run),
+        DecomposeAnswer::Refused(refusal, place) => write_refusal(rt, refusal, place),
     }
 }
 
@@ -128,38 +120,33 @@ fn digest(masks: &[u8]) -> u64 {
 }
 
 // Decomposes n made pieces, of which as many are there as there are masks. None has a fixed mask.
-fn show_layer(s: Settings, seed: u32, n: usize, masks: &mut [u8])
+fn show_layer(rt: &impl Print, s: Settings, seed: u32, n: usize, masks: &mut [u8]) -> io::Result<()>
     requires { length masks.old ≤ 512 }
 {
     let flat = made_layer(seed, masks.len());
     let fixed = [Piece::UNSET; 512];
     let answer = decomposer::decompose_flat(s, &flat, &fixed, n, masks);
-    write_answer(answer);
-    write(b" digest=");
-    io::print_decimal(STDOUT_FILENO, digest(masks));
-    write(b"\n");
+    write_answer(rt, answer)?;
+    println!(rt; " digest={}", digest(masks))
 }
 
 // More pieces than there can be are asked for all the same: the call is to refuse them.
-fn show_made(masks: u32, seed: u32, pieces: u32, budget: u32) {
-    write_value(b"made masks=", masks);
-    write_value(b" seed=", seed);
-    write_value(b" pieces=", pieces);
-    write_value(b" budget=", budget);
-    write(b": ");
+fn show_made(rt: &impl Print, masks: u32, seed: u32, pieces: u32, budget: u32) -> io::Result<()> {
+    print!(rt; "made masks={masks} seed={seed} pieces={pieces} budget={budget}: ")?;
     let mut list = [9u8; 512];
-    let there = io::count(pieces as isize, &list);
+    let there = (pieces as usize).min(list.len());
     show_layer(
+        rt,
         settings(masks, budget),
         seed,
         pieces as usize,
         &mut list[..there],
-    );
+    )
 }
 
 // ---- arguments
 
-#[derive(Drop)]
+#[derive(Clone, Copy)]
 enum Number {
     Value(u32),
     Bad,
@@ -198,45 +185,41 @@ fn parsed(text: &[u8]) -> Number {
     Number::Value(value as u32)
 }
 
-fn argument(i: usize) -> Number {
-    let mut text = io::buffer();
-    let n = os::arg(i, &mut text);
+fn argument(rt: &impl Env, i: usize) -> Number {
+    let mut text = [0u8; 4_096];
+    let n = files::argument(rt, i, &mut text);
     parsed(&text[..n])
 }
 
 // Whether the four arguments from i on are numbers. If they are, the layer that they ask for is shown.
-fn show_group(i: usize) -> bool
+fn show_group(rt: &(impl Env + Print), i: usize) -> io::Result<bool>
     requires { i + 3 < 18446744073709551616 }
 {
-    let Number::Value(masks) = argument(i) else {
-        return false;
+    let Number::Value(masks) = argument(rt, i) else {
+        return Ok(false);
     };
-    let Number::Value(seed) = argument(i + 1) else {
-        return false;
+    let Number::Value(seed) = argument(rt, i + 1) else {
+        return Ok(false);
     };
-    let Number::Value(pieces) = argument(i + 2) else {
-        return false;
+    let Number::Value(pieces) = argument(rt, i + 2) else {
+        return Ok(false);
     };
-    let Number::Value(budget) = argument(i + 3) else {
-        return false;
+    let Number::Value(budget) = argument(rt, i + 3) else {
+        return Ok(false);
     };
-    show_made(masks, seed, pieces, budget);
-    true
+    show_made(rt, masks, seed, pieces, budget)?;
+    Ok(true)
 }
 
-fn main() {
-    let count = os::arg_count();
+fn main(rt: HostRuntime) -> io::Result<()> {
+    let count = files::argument_count(&rt);
     if count % 4 != 1 {
-        write(b"give MASKS SEED PIECES BUDGET for each made layer\n");
-        return;
+        return println!(rt; "give MASKS SEED PIECES BUDGET for each made layer");
     }
-    let groups = count / 4;
-    let mut g = 0;
-    while g < groups {
-        if !show_group(4 * g + 1) {
-            write(b"an argument is no decimal number below 2^32\n");
-            return;
+    for g in 0..count / 4 {
+        if !show_group(&rt, 4 * g + 1)? {
+            return println!(rt; "an argument is no decimal number below 2^32");
         }
-        g += 1;
     }
+    Ok(())
 }

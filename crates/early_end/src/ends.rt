@@ -5,7 +5,7 @@ ghost use Rattle.places.specs.Local.{list_graph, PlaceLists};
 ghost use Rattle.first_assignment.specs.First.{fixed_to};
 ghost use Rattle.early_end.specs.Ends.{end_number};
 
-use crate::edges::{all_listed, edge_counts};
+use crate::listed_edges::{all_listed, edge_counts};
 use first_assignment::has_fixed;
 use library::entry;
 

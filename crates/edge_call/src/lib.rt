@@ -1,5 +1,7 @@
 // The public call on two pieces (RULES 12): the edge between them, where the layer of these two is valid. `records` hands it on, and the program `cases` stands
 // on it.
+#![tactic(auto)]
+
 ghost use Rattle.std.specs.Prelude.{[], ◌∷◌, ◌&&◌, ◌≡◌};
 ghost use Rattle.rules.specs.Answers.{edge_answer};
 ghost use Rattle.rules.specs.Calls.{edge_between};

@@ -1,64 +1,86 @@
-// The start of a file, as much as a buffer has room for. The programs `layer`, `score` and `cases` stand on this
-// crate.
-ghost use Rattle.io.specs.Counts.{IsPrefixLen};
+// What the programs read: their arguments, and the start of a file or of the standard input, as much as a buffer has room for. The
+// programs `layer`, `score`, `cases`, `record_cases`, `stages` and `decomposer_main` stand on this crate.
+#![tactic(auto)]
+
+ghost use Rattle.std.specs.Prelude.{◌≡◌, IfOk};
+ghost use Rattle.files.specs.Counts.{IsPrefixLen};
+
+use bstr::BStr;
+use std::env::{Env, FillError};
+use std::io::Read;
+use std::rt::Files;
+use std::{fs, io, str};
+
+// ---- files
 
 // Whether a file was read, and how many of its bytes are at the start of the buffer.
-#[derive(Drop)]
+#[derive(Clone, Copy)]
 pub struct FileRead {
     pub good: bool,
     pub bytes: usize,
 }
 
-// One read. It moves no bytes at the end of the file, and none where it fails.
-fn read_some(fd: i32, part: &mut [u8]) -> FileRead
-    ensures { IsPrefixLen result.bytes part.new }
-{
-    let got = libc::read(fd, part);
-    FileRead {
-        good: 0 <= got,
-        bytes: io::count(got, part),
-    }
-}
-
-// Reads until the buffer is full, the file ends or a read fails.
-fn read_all(fd: i32, buffer: &mut [u8]) -> FileRead
-    ensures { IsPrefixLen result.bytes buffer.new }
+// Reads until the buffer is full, the input ends or a read fails, and answers how many bytes are at the start of the buffer.
+pub fn read_all(input: &mut impl Read, buffer: &mut [u8]) -> io::Result<usize>
+    ensures { IfOk result (λ n. IsPrefixLen n buffer.new) }
 {
     let mut at = 0;
     while at < buffer.len() {
-        let read = read_some(fd, &mut buffer[at..]);
-        let bytes = read.bytes;
+        let bytes = input.read(&mut buffer[at..])?;
         if bytes == 0 {
-            return FileRead {
-                good: read.good,
-                bytes: at,
-            };
+            return Ok(at);
         }
         at += bytes;
     }
-    FileRead {
-        good: true,
-        bytes: at,
+    Ok(at)
+}
+
+// The library opens a path only if it is UTF-8.
+fn read_path(rt: &impl Files, path: &[u8], buffer: &mut [u8]) -> io::Result<usize>
+    ensures { IfOk result (λ n. IsPrefixLen n buffer.new) }
+{
+    match str::from_utf8(path) {
+        Ok(name) => read_all(&mut fs::open(rt, name)?, buffer),
+        Err(_) => Err(io::Error::from(io::ErrorKind::InvalidFilename)),
     }
 }
 
 // Reads the start of a file. Where that fails, standard error has the reason. Whether it fails, and which bytes are read, is the system's
 // to say.
-pub fn read_file(path: &[u8], buffer: &mut [u8]) -> FileRead
+pub fn read_file(rt: &(impl Files + Eprint), path: &[u8], buffer: &mut [u8]) -> FileRead
     ensures { IsPrefixLen result.bytes buffer.new }
 {
-    let fd = os::open_read(path);
-    if fd < 0 {
-        os::fail(path);
-        return FileRead {
-            good: false,
-            bytes: 0,
-        };
+    match read_path(rt, path, buffer) {
+        Ok(bytes) => FileRead { good: true, bytes },
+        Err(error) => {
+            // There is nowhere else to say it.
+            let _ = eprintln!(rt; "{}: {error}", BStr::new(path));
+            FileRead {
+                good: false,
+                bytes: 0,
+            }
+        }
     }
-    let read = read_all(fd, buffer);
-    if !read.good {
-        os::fail(path);
+}
+
+// ---- arguments
+
+// How many arguments the program was started with, its own name among them.
+pub fn argument_count(rt: &impl Env) -> usize {
+    for i in 0..usize::MAX {
+        if let Err(FillError::NotPresent) = rt.arg(i, &mut []) {
+            return i;
+        }
     }
-    libc::close(fd);
-    read
+    usize::MAX
+}
+
+// Puts argument i at the start of the buffer and answers its length, or 0 where it is missing or longer than the buffer.
+pub fn argument(rt: &impl Env, i: usize, buffer: &mut [u8]) -> usize
+    ensures { IsPrefixLen result buffer.new }
+{
+    match rt.arg(i, buffer) {
+        Ok(bytes) => bytes,
+        Err(_) => 0,
+    }
 }

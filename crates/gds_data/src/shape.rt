@@ -8,7 +8,7 @@ ghost use Rattle.gds_data.specs.Shapes.{shape_of};
 use numerals::{Numeral, read_numeral};
 
 // A shape number, up to the cap, or bytes that state none.
-#[derive(Drop)]
+#[derive(Clone, Copy)]
 pub enum Shape {
     Number(u32),
     Bad,

@@ -8,7 +8,7 @@ use gds_records::{Kind, Part, is_due, pass_records, read_record};
 use rules::{Piece, Place, ReadAnswer, Refusal};
 
 // A shape number, up to the cap, and how many bytes were read, or a refusal.
-#[derive(Drop)]
+#[derive(Clone, Copy)]
 pub enum Property {
     Read(u32, usize),
     Refused(Refusal, Place),
@@ -43,7 +43,7 @@ fn read_property(bytes: &[u8], k: u32) -> Property
 }
 
 // The piece of an element and how many bytes were read, or a refusal.
-#[derive(Drop)]
+#[derive(Clone, Copy)]
 pub enum ElementAnswer {
     Read(Piece, usize),
     Refused(Refusal, Place),
@@ -80,7 +80,7 @@ fn read_element(bytes: &[u8], k: u32) -> ElementAnswer
 }
 
 // How many elements there are and how many bytes they have, with the pieces of the first 512; after a refusal only the answer counts.
-#[derive(Drop)]
+#[derive(Clone, Copy)]
 pub struct Elements {
     pub answer: ReadAnswer,
     pub count: usize,

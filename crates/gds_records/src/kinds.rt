@@ -5,7 +5,7 @@ ghost use Rattle.gds_records.specs.Kinds.{due_of, next_of, form_of};
 
 use rules::Refusal;
 
-#[derive(Drop)]
+#[derive(Clone, Copy)]
 pub enum Kind {
     Header,
     Bgnlib,
@@ -25,7 +25,7 @@ pub enum Kind {
 }
 
 // The type and the data type of a record, and the least and the greatest length of its data.
-#[derive(Drop)]
+#[derive(Clone, Copy)]
 pub struct Form {
     pub record_type: u8,
     pub data_type: u8,

@@ -9,7 +9,7 @@ use gds_data::{is_nanometre, is_rectangle, is_shape, word16};
 use rules::{Place, Refusal};
 
 // How many bytes were read, or a refusal.
-#[derive(Drop)]
+#[derive(Clone, Copy)]
 pub enum Part {
     Read(usize),
     Refused(Refusal, Place),

@@ -10,7 +10,6 @@ use lib.ListN.{length, take, length-map}
 use lib.Seq.{take_all, take-append-le}
 use borrow.Author.Tests.{leb-true}
 use Rattle.rules.specs.declared.layer.Settings.{Settings}
-use Rattle.rules.specs.declared.layer.Piece.{Piece}
 use Rattle.rules.specs.declared.refusal.Place.{Place}
 use Rattle.rules.specs.Basics.{up_to, any_of}
 use Rattle.rules.specs.Settings.{settings_in_range, piece_in_range, has_area, piece_at}

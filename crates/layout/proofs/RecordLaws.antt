@@ -17,7 +17,7 @@ use Rattle.rules.specs.Edges.{overlap_x, overlap_y, overlapping}
 use Rattle.rules.specs.Questions.{Outcome, refused, ask, and_then, ask_each, with_fixed, judge_record, judge_overlaps, judge_records}
 use Rattle.rules.proofs.Outcomes.{each_ext}
 use Rattle.rules.proofs.Lists.{any_ext, length_up_to, up_to_snoc, mapped_up_to}
-use Rattle.layout.specs.Flat.{piece_of, pieces_of, record_of, records_of}
+use Rattle.layout.specs.Flat.{pieces_of, record_of, records_of}
 use Rattle.layout.proofs.PieceLaws.{pieces_length, piece_of_lem}
 
 pub records_length : (flat fixed : List ℕ) (n : ℕ) → length (records_of flat fixed n) ≡ n

@@ -12,7 +12,7 @@ use crate::flat::piece_at;
 use edges::pieces_overlap;
 use rules::{Piece, Place, Refusal, Settings};
 
-#[derive(Drop)]
+#[derive(Clone, Copy)]
 pub enum Judgement {
     Passed,
     Refused(Refusal, Place),

@@ -1,5 +1,7 @@
 // The five-piece library, as document 02 calls it: the least number of conflicts of every conflict graph on five pieces with three masks, in
 // a table. The bound of a component's search stands on it.
+#![tactic(auto)]
+
 ghost use Rattle.std.specs.Prelude.{◌≡◌, ◌<◌};
 ghost use Rattle.rules.specs.Library.{entry_of};
 ghost use Rattle.theory.proofs.Table.{least_digits};

@@ -1,12 +1,14 @@
 // Prints the table of the crate `library`, line for line as the source there has it. The entries are computed here and not taken from that
 // crate: for each graph every assignment is tried.
+#![tactic(auto)]
+
 ghost use Rattle.std.specs.Prelude.{◌≡◌, ℕ, ◌+◌, ◌≤◌, ◌<◌, get_or};
 ghost use Rattle.rules.specs.Basics.{sum_to};
 ghost use Rattle.rules.specs.Score.{conflicts_of};
 ghost use Rattle.rules.specs.Library.{pair_number, indexed, entry_of};
 ghost use Rattle.library_table.specs.Assignments.{masks_of, conflicts_between};
 
-use libc::STDOUT_FILENO;
+use std::io;
 
 // ---- conflicts
 
@@ -114,24 +116,18 @@ fn digits(first: usize) -> [u8; 64]
     line
 }
 
-fn write(text: &[u8]) {
-    io::write_all(STDOUT_FILENO, text);
-}
-
 // A line of the table, with what ends it in the source.
-fn write_line(first: usize, end: &[u8])
+fn write_line(rt: &impl Print, first: usize, end: &[u8]) -> io::Result<()>
     requires { first < 1024 }
 {
-    write(b"    ");
-    write(&digits(first));
-    write(end);
+    rt.write_all(b"    ")?;
+    rt.write_all(&digits(first))?;
+    rt.write_all(end)
 }
 
-fn main() {
-    let mut first = 0;
-    while first < 960 {
-        write_line(first, b"\\\n");
-        first += 64;
+fn main(rt: HostRuntime) -> io::Result<()> {
+    for line in 0..15usize {
+        write_line(&rt, 64 * line, b"\\\n")?;
     }
-    write_line(960, b"\";\n");
+    write_line(&rt, 960, b"\";\n")
 }

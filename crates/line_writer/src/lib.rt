@@ -1,5 +1,7 @@
 // Lines with a key and numbers, written into a lent buffer, one after the other (RULES 9). Each function answers the place after what it
 // wrote. The writers of the layer text and of the result text stand on this crate.
+#![tactic(auto)]
+
 ghost use Rattle.std.specs.Prelude.{[], ◌∷◌, ◌+◌, ◌≤◌, length};
 ghost use Rattle.rules.specs.Lines.{decimal, comma_list, line};
 ghost use Rattle.line_writer.specs.Writing.{Put};

@@ -7,7 +7,7 @@ ghost use Rattle.lines.specs.ReadLines.{line_split, keyed, next_numeral, no_numb
 use numerals::{Numeral, read_numeral};
 
 // How many bytes the text's first line has before its byte 10, or that there is no such byte.
-#[derive(Drop)]
+#[derive(Clone, Copy)]
 pub enum LineEnd {
     At(usize),
     Missing,
@@ -60,7 +60,7 @@ fn read_next(text: &[u8]) -> Numeral
 }
 
 // The numbers of a line after its key, of which `good` says whether they have the form.
-#[derive(Drop)]
+#[derive(Clone, Copy)]
 pub struct Numbers {
     pub good: bool,
     pub values: [u32; 5],
@@ -121,7 +121,7 @@ fn read_body(line: &[u8], key: &[u8], count: usize) -> Numbers
 
 // A line read: whether it has its form, how many bytes it is long with its byte 10, and its numbers, each up to
 // the cap.
-#[derive(Drop)]
+#[derive(Clone, Copy)]
 pub struct Line {
     pub good: bool,
     pub bytes: usize,

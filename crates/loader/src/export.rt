@@ -1,4 +1,4 @@
-// The functions for C.
+// The functions for C. The static library `loader_c` has them under these names, and C programs link that.
 ghost use Rattle.std.specs.Prelude.{◌≡◌};
 ghost use Rattle.rules.specs.Answers.{write_answer};
 ghost use Rattle.rules.specs.Calls.{decompose_text, decompose_stream, buffer_after};
@@ -21,8 +21,7 @@ fn number_of(answer: WriteAnswer) -> u64
     }
 }
 
-#[unsafe(no_mangle)]
-pub extern "C" fn hezgolt_decompose(layer: &[u8], res: &mut [u8]) -> u64
+pub fn hezgolt_decompose(layer: &[u8], res: &mut [u8]) -> u64
     ensures value { result ≡ loader_number (decompose_text layer.now res.old) }
     ensures res_after { res.new ≡ buffer_after (decompose_text layer.now res.old) res.old }
     ensures demand3of_text { Demand3OfText layer.now }
@@ -30,8 +29,7 @@ pub extern "C" fn hezgolt_decompose(layer: &[u8], res: &mut [u8]) -> u64
     number_of(decompose_text(layer, res))
 }
 
-#[unsafe(no_mangle)]
-pub extern "C" fn hezgolt_decompose_stream(settings: &[u8], stream: &[u8], res: &mut [u8]) -> u64
+pub fn hezgolt_decompose_stream(settings: &[u8], stream: &[u8], res: &mut [u8]) -> u64
     ensures value { result ≡ loader_number (decompose_stream settings.now stream.now res.old) }
     ensures res_after { res.new ≡ buffer_after (decompose_stream settings.now stream.now res.old) res.old }
     ensures demand3of_stream { Demand3OfStream settings.now stream.now }

@@ -1,11 +1,13 @@
 // Numbers to base ten, read (RULES 9). A number of any length has good form, so a value above the cap is read as the cap, which lies
 // above every range. The readers of lines and of GDSII data stand on this crate, and the writer of lines on its laws.
+#![tactic(auto)]
+
 ghost use Rattle.std.specs.Prelude.{true, ◌≡◌, min};
 ghost use Rattle.rules.specs.Lines.{is_digit, all_digits, value};
 ghost use Rattle.numerals.specs.Numerals.{cap, digits_in, numeral_of};
 
 // What stands at the start of a text: a numeral with its value and the number of its digits, or none.
-#[derive(Drop)]
+#[derive(Clone, Copy)]
 pub enum Numeral {
     Number(u32, usize),
     Bad,

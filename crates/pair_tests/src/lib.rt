@@ -1,5 +1,7 @@
 // One pass over the unordered pairs of pieces. Each pair is tested for an edge once, from its greater number, and the same test says whether it is a conflict, a
 // stitch or a tie. Tests are counted where they are made, whether the ends of the pair are set or not. Scoring stands on this crate.
+#![tactic(auto)]
+
 ghost use Rattle.std.specs.Prelude.{true, ◌&&◌, ◌||◌, ◌≡◌, ℕ, ◌<◌, ◌≤◌, length};
 ghost use Rattle.bitset.specs.Bits.{has_edge};
 ghost use Rattle.rules.specs.Basics.{sum_to};
@@ -18,14 +20,14 @@ use layout::piece_at;
 use rules::{Edge, Settings};
 
 // Conflicts and stitches, counted.
-#[derive(Drop)]
+#[derive(Clone, Copy)]
 pub struct Counts {
     pub conflicts: u32,
     pub stitches: u32,
 }
 
 // How many pairs were tested, and how many conflicts and stitches they have.
-#[derive(Drop)]
+#[derive(Clone, Copy)]
 pub struct Tally {
     pub tested: u32,
     pub conflicts: u32,

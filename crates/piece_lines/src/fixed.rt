@@ -9,7 +9,7 @@ use lines::read_line;
 use rules::{Piece, Place, ReadAnswer, Refusal};
 
 // The piece of a line and its mask, and how many bytes the line has, or a refusal.
-#[derive(Drop)]
+#[derive(Clone, Copy)]
 pub enum FixedAnswer {
     Read(usize, u8, usize),
     Refused(Refusal, Place),
@@ -57,7 +57,7 @@ fn with_fixed(piece: Piece, mask: u8) -> Piece
 }
 
 // The records with the masks that the lines fix. After a refusal all is zero.
-#[derive(Drop)]
+#[derive(Clone, Copy)]
 pub struct FixedPieces {
     pub answer: ReadAnswer,
     pub records: [Piece; 512],

@@ -9,7 +9,7 @@ use lines::read_line;
 use rules::{Piece, Place, ReadAnswer, Refusal};
 
 // The piece of a line and how many bytes the line has, or a refusal.
-#[derive(Drop)]
+#[derive(Clone, Copy)]
 pub enum PieceAnswer {
     Read(Piece, usize),
     Refused(Refusal, Place),
@@ -46,7 +46,7 @@ fn read_piece(text: &[u8], line: u32) -> PieceAnswer
 }
 
 // Pieces in records that are zero after them, and how many bytes their lines have. After a refusal all is zero.
-#[derive(Drop)]
+#[derive(Clone, Copy)]
 pub struct Pieces {
     pub answer: ReadAnswer,
     pub bytes: usize,

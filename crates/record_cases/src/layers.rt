@@ -9,7 +9,7 @@ use rules::Piece;
 // The three squares of RULES 9; those with a piece of no width, one out of range, or one that overlaps; a wire in halves with a piece
 // beside each; squares far apart; two tied pieces with two neighbours. The row with its middle piece fixed to mask 0, the row with the thin
 // piece fixed to mask 2, and the tied pieces fixed to masks 0 and 1.
-#[derive(Drop)]
+#[derive(Clone, Copy)]
 pub enum Layer {
     Row,
     Thin,

@@ -1,5 +1,4 @@
-// The calls on lent records, for a caller that has them by value: the first n are lent. The borrow checker derives no function that makes
-// a reference to a struct, so the functions that do are here, and tools/carry writes their derivations.
+// The calls on lent records, for a caller that has them by value: the first n are lent.
 ghost use Rattle.std.specs.Prelude.{◌≡◌, ◌≤◌, take};
 ghost use Rattle.rules.specs.Answers.{score_answer, decompose_answer, write_answer, length_of};
 ghost use Rattle.rules.specs.Calls.{score_masks, decompose_layer, masks_after, write_layer, buffer_after};

@@ -1,5 +1,7 @@
 // Runs the calls on lent records, and reports of each case whether it came out as stated in RULES 11 to 13, 17 and 18: worked cases, and refusals,
 // after which lent memory must be as it was.
+#![tactic(auto)]
+
 ghost use Rattle.std.specs.Prelude.{◌≤◌};
 
 mod layers;
@@ -10,8 +12,9 @@ use crate::layers::{Layer, records_of};
 use crate::outcomes::{
     best, is_outcome, of_refusal, of_run, of_score, refused, scored, with_memory, written,
 };
-use libc::{STDIN_FILENO, STDOUT_FILENO};
+use files::read_all;
 use rules::{DecomposeAnswer, ScoreAnswer, Settings, WriteAnswer};
+use std::io;
 
 // ---- the calls on the first n records of a layer
 
@@ -54,33 +57,16 @@ fn write_outcome(layer: Layer, n: usize, buffer: &mut [u8]) -> [u64; 8]
 
 // ---- how a case came out
 
-fn print(text: &[u8]) {
-    io::write_all(STDOUT_FILENO, text);
-}
-
-fn print_next(n: u64) {
-    print(b" ");
-    io::print_decimal(STDOUT_FILENO, n);
-}
-
-fn print_numbers(came: [u64; 8]) {
-    let mut i = 0;
-    while i < 8 {
-        print_next(came[i]);
-        i += 1;
-    }
-}
-
 // A line with the case's name, and what came instead where it is not what the rules state.
-fn report(name: &[u8], came: [u64; 8], wanted: [u64; 8]) {
-    print(name);
+fn report(rt: &impl Print, name: &str, came: [u64; 8], wanted: [u64; 8]) -> io::Result<()> {
     if is_outcome(came, wanted) {
-        print(b": as stated\n");
-    } else {
-        print(b": DIFFERS:");
-        print_numbers(came);
-        print(b"\n");
+        return println!(rt; "{name}: as stated");
     }
+    print!(rt; "{name}: DIFFERS:")?;
+    for number in came {
+        print!(rt; " {number}")?;
+    }
+    println!(rt; "")
 }
 
 // ---- a call, and what it is to come to
@@ -97,337 +83,414 @@ fn list(bytes: u32, others: u8) -> [u8; 513] {
 
 // Decomposes n records of a layer on k masks. The mask list must then be as given.
 fn decompose_in(
-    name: &[u8],
+    rt: &impl Print,
+    name: &str,
     layer: Layer,
     k: u32,
     n: usize,
     masks: &mut [u8],
     after: &[u8],
     wanted: [u64; 8],
-)
+) -> io::Result<()>
     requires { n ≤ 513 }
 {
     let came = decompose_outcome(layer, k, n, masks);
-    report(name, with_memory(came, check::same(masks, after)), wanted);
+    let given: &[u8] = masks;
+    report(rt, name, with_memory(came, given == after), wanted)
 }
 
 // The same with a list of m masks, all 9, which must then be the first m of `after`.
 fn decompose(
-    name: &[u8],
+    rt: &impl Print,
+    name: &str,
     layer: Layer,
     k: u32,
     n: usize,
     m: u32,
     after: [u8; 513],
     wanted: [u64; 8],
-)
+) -> io::Result<()>
     requires { n ≤ 513 }
 {
     let mut masks = [9u8; 513];
-    let room = io::count(m as isize, &masks);
-    let size = io::count(m as isize, &after);
+    let size = (m as usize).min(513);
     decompose_in(
+        rt,
         name,
         layer,
         k,
         n,
-        &mut masks[..room],
+        &mut masks[..size],
         &after[..size],
         wanted,
-    );
+    )
 }
 
-fn decompose_refused(name: &[u8], layer: Layer, k: u32, n: usize, m: u32, number: u64, place: u64)
+fn decompose_refused(
+    rt: &impl Print,
+    name: &str,
+    layer: Layer,
+    k: u32,
+    n: usize,
+    m: u32,
+    number: u64,
+    place: u64,
+) -> io::Result<()>
     requires { n ≤ 513 }
 {
-    decompose(name, layer, k, n, m, [9u8; 513], refused(number, place));
+    decompose(rt, name, layer, k, n, m, [9u8; 513], refused(number, place))
 }
 
 // Scores n records of a layer on two masks, with a list of m masks.
-fn score(name: &[u8], layer: Layer, n: usize, m: u32, bytes: u32, wanted: [u64; 8])
+fn score(
+    rt: &impl Print,
+    name: &str,
+    layer: Layer,
+    n: usize,
+    m: u32,
+    bytes: u32,
+    wanted: [u64; 8],
+) -> io::Result<()>
     requires { n ≤ 513 }
 {
     let masks = list(bytes, 0);
-    let size = io::count(m as isize, &masks);
-    report(name, score_outcome(layer, n, &masks[..size]), wanted);
+    let size = (m as usize).min(513);
+    report(rt, name, score_outcome(layer, n, &masks[..size]), wanted)
 }
 
 // Writes n records of a layer. The buffer must then be as given.
-fn write_in(name: &[u8], layer: Layer, n: usize, buffer: &mut [u8], after: &[u8], wanted: [u64; 8])
+fn write_in(
+    rt: &impl Print,
+    name: &str,
+    layer: Layer,
+    n: usize,
+    buffer: &mut [u8],
+    after: &[u8],
+    wanted: [u64; 8],
+) -> io::Result<()>
     requires { n ≤ 513 }
 {
     let came = write_outcome(layer, n, buffer);
-    report(name, with_memory(came, check::same(buffer, after)), wanted);
+    let written: &[u8] = buffer;
+    report(rt, name, with_memory(came, written == after), wanted)
 }
 
 // The text is refused, and a buffer of zeros stays.
-fn write_refused(name: &[u8], layer: Layer, n: usize, room: u32, number: u64, place: u64)
+fn write_refused(
+    rt: &impl Print,
+    name: &str,
+    layer: Layer,
+    n: usize,
+    room: u32,
+    number: u64,
+    place: u64,
+) -> io::Result<()>
     requires { n ≤ 513 }
 {
-    let zeros = io::large_buffer();
-    let mut buffer = io::large_buffer();
-    let lent = io::count(room as isize, &buffer);
-    let size = io::count(room as isize, &zeros);
+    let zeros = [0u8; 65_536];
+    let mut buffer = [0u8; 65_536];
+    let size = (room as usize).min(65_536);
     write_in(
+        rt,
         name,
         layer,
         n,
-        &mut buffer[..lent],
+        &mut buffer[..size],
         &zeros[..size],
         refused(number, place),
-    );
+    )
 }
 
 // ---- worked cases
 
-fn results() {
+fn results(rt: &impl Print) -> io::Result<()> {
     decompose(
-        b"decompose the row",
+        rt,
+        "decompose the row",
         Layer::Row,
         2,
         3,
         3,
         list(0x00010000, 9),
         best(1, 0, 10, 5),
-    );
+    )?;
     decompose(
-        b"decompose 512 records",
+        rt,
+        "decompose 512 records",
         Layer::Far,
         2,
         512,
         512,
         [0u8; 513],
         best(0, 0, 0, 0),
-    );
+    )?;
     decompose(
-        b"decompose tied pieces",
+        rt,
+        "decompose tied pieces",
         Layer::Tied,
         2,
         4,
         4,
         list(0x00000101, 9),
         best(1, 0, 10, 5),
-    );
+    )
 }
 
 // Fixed masks are kept by a run; masks that break them are scored all the same.
-fn fixed_results() {
+fn fixed_results(rt: &impl Print) -> io::Result<()> {
     decompose(
-        b"decompose the row, piece 1 fixed to 0",
+        rt,
+        "decompose the row, piece 1 fixed to 0",
         Layer::FixedRow,
         2,
         3,
         3,
         list(0x00000100, 9),
         best(1, 0, 10, 6),
-    );
+    )?;
     score(
-        b"score the row, piece 1 fixed to 0, on 0, 1, 0",
+        rt,
+        "score the row, piece 1 fixed to 0, on 0, 1, 0",
         Layer::FixedRow,
         3,
         3,
         0x00010000,
         scored(1, 0, 10, 3),
-    );
+    )
 }
 
-fn scores() {
+fn scores(rt: &impl Print) -> io::Result<()> {
     score(
-        b"score the row on 0, 1, 0",
+        rt,
+        "score the row on 0, 1, 0",
         Layer::Row,
         3,
         3,
         0x00010000,
         scored(1, 0, 10, 3),
-    );
+    )?;
     score(
-        b"score the row on 1, 1, 1",
+        rt,
+        "score the row on 1, 1, 1",
         Layer::Row,
         3,
         3,
         0x01010100,
         scored(3, 0, 30, 3),
-    );
+    )?;
     score(
-        b"score the wire on 0, 1, 1, 0",
+        rt,
+        "score the wire on 0, 1, 1, 0",
         Layer::Wire,
         4,
         4,
         0x00010100,
         scored(0, 1, 1, 6),
-    );
+    )
 }
 
-fn half_done_scores() {
+fn half_done_scores(rt: &impl Print) -> io::Result<()> {
     score(
-        b"score the row, piece 1 not set",
+        rt,
+        "score the row, piece 1 not set",
         Layer::Row,
         3,
         3,
         0x00FF0000,
         scored(1, 0, 10, 3),
-    );
+    )?;
     score(
-        b"score tied pieces, the lowest not set",
+        rt,
+        "score tied pieces, the lowest not set",
         Layer::Tied,
         4,
         4,
         0xFF010100,
         scored(1, 0, 10, 6),
-    );
+    )?;
     score(
-        b"score the wire, nothing set",
+        rt,
+        "score the wire, nothing set",
         Layer::Wire,
         4,
         4,
         0xFFFFFFFF,
         scored(0, 0, 0, 6),
-    );
+    )
 }
 
 // The text is the one on standard input, and the zeros after it stay.
-fn text() {
-    let mut after = io::large_buffer();
-    let size = io::read_full(STDIN_FILENO, &mut after);
-    let mut buffer = io::large_buffer();
+fn text(rt: &(impl Input + Print)) -> io::Result<()> {
+    let mut after = [0u8; 65_536];
+    let size = read_all(&mut rt.reader(), &mut after)?;
+    let mut buffer = [0u8; 65_536];
     write_in(
-        b"write the row, piece 1 fixed to 0",
+        rt,
+        "write the row, piece 1 fixed to 0",
         Layer::FixedRow,
         3,
         &mut buffer,
         &after,
         written(size),
-    );
+    )
 }
 
 // ---- refusals
 
-fn bad_layers() {
-    decompose_refused(b"decompose 513 records", Layer::Far, 2, 513, 513, 4, 0);
-    decompose_refused(b"piece 1 of no width", Layer::Thin, 2, 3, 3, 5, 1);
-    decompose_refused(b"piece 2 out of range", Layer::Outside, 2, 3, 3, 4, 2);
-    decompose_refused(b"piece 2 overlaps piece 0", Layer::Overlap, 2, 3, 3, 6, 2);
-    decompose_refused(b"decompose on 9 masks", Layer::Row, 9, 3, 3, 4, 0);
-    decompose_refused(b"room for 2 masks", Layer::Row, 2, 3, 2, 7, 0);
-    decompose_refused(b"room for 4 masks", Layer::Row, 2, 3, 4, 7, 0);
+fn bad_layers(rt: &impl Print) -> io::Result<()> {
+    decompose_refused(rt, "decompose 513 records", Layer::Far, 2, 513, 513, 4, 0)?;
+    decompose_refused(rt, "piece 1 of no width", Layer::Thin, 2, 3, 3, 5, 1)?;
+    decompose_refused(rt, "piece 2 out of range", Layer::Outside, 2, 3, 3, 4, 2)?;
+    decompose_refused(
+        rt,
+        "piece 2 overlaps piece 0",
+        Layer::Overlap,
+        2,
+        3,
+        3,
+        6,
+        2,
+    )?;
+    decompose_refused(rt, "decompose on 9 masks", Layer::Row, 9, 3, 3, 4, 0)?;
+    decompose_refused(rt, "room for 2 masks", Layer::Row, 2, 3, 2, 7, 0)?;
+    decompose_refused(rt, "room for 4 masks", Layer::Row, 2, 3, 4, 7, 0)
 }
 
 // The thin piece has neither a mask of two nor a width: the mask is asked first.
-fn bad_fixed() {
+fn bad_fixed(rt: &impl Print) -> io::Result<()> {
     decompose_refused(
-        b"thin piece 1 fixed to 2 of 2",
+        rt,
+        "thin piece 1 fixed to 2 of 2",
         Layer::FixedThin,
         2,
         3,
         3,
         13,
         1,
-    );
+    )?;
     decompose_refused(
-        b"thin piece 1 fixed to 2 of 3",
+        rt,
+        "thin piece 1 fixed to 2 of 3",
         Layer::FixedThin,
         3,
         3,
         3,
         5,
         1,
-    );
+    )?;
     decompose_refused(
-        b"tied pieces fixed to 0 and 1",
+        rt,
+        "tied pieces fixed to 0 and 1",
         Layer::FixedTied,
         2,
         4,
         4,
         14,
         1,
-    );
+    )?;
     score(
-        b"score 2 masks, tied pieces fixed to 0 and 1",
+        rt,
+        "score 2 masks, tied pieces fixed to 0 and 1",
         Layer::FixedTied,
         4,
         2,
         0,
         refused(14, 1),
-    );
+    )?;
     write_refused(
-        b"write tied pieces fixed to 0 and 1",
+        rt,
+        "write tied pieces fixed to 0 and 1",
         Layer::FixedTied,
         4,
         32768,
         14,
         1,
-    );
+    )
 }
 
-fn bad_lists() {
-    score(b"score 513 records", Layer::Far, 513, 513, 0, refused(4, 0));
+fn bad_lists(rt: &impl Print) -> io::Result<()> {
     score(
-        b"score 2 masks",
+        rt,
+        "score 513 records",
+        Layer::Far,
+        513,
+        513,
+        0,
+        refused(4, 0),
+    )?;
+    score(
+        rt,
+        "score 2 masks",
         Layer::Row,
         3,
         2,
         0x00010000,
         refused(7, 0),
-    );
+    )?;
     score(
-        b"score 4 masks",
+        rt,
+        "score 4 masks",
         Layer::Row,
         3,
         4,
         0x00010000,
         refused(7, 0),
-    );
+    )
 }
 
-fn bad_masks() {
+fn bad_masks(rt: &impl Print) -> io::Result<()> {
     score(
-        b"piece 1 on mask 2 of 2",
+        rt,
+        "piece 1 on mask 2 of 2",
         Layer::Row,
         3,
         3,
         0x00020200,
         refused(8, 1),
-    );
+    )?;
     score(
-        b"piece 1 on mask 254 of 2",
+        rt,
+        "piece 1 on mask 254 of 2",
         Layer::Row,
         3,
         3,
         0x00FE0000,
         refused(8, 1),
-    );
+    )?;
     score(
-        b"tied pieces on 0 and 1",
+        rt,
+        "tied pieces on 0 and 1",
         Layer::Tied,
         4,
         4,
         0x00010101,
         refused(12, 1),
-    );
+    )?;
     score(
-        b"tied pieces on 0 and 1, mask 2 of 2",
+        rt,
+        "tied pieces on 0 and 1, mask 2 of 2",
         Layer::Tied,
         4,
         4,
         0x00010102,
         refused(8, 3),
-    );
+    )
 }
 
-fn bad_texts() {
-    write_refused(b"write 513 records", Layer::Far, 513, 32768, 4, 0);
-    write_refused(b"room for 32767 bytes", Layer::Row, 3, 32767, 1, 0);
+fn bad_texts(rt: &impl Print) -> io::Result<()> {
+    write_refused(rt, "write 513 records", Layer::Far, 513, 32768, 4, 0)?;
+    write_refused(rt, "room for 32767 bytes", Layer::Row, 3, 32767, 1, 0)
 }
 
-fn main() {
-    results();
-    fixed_results();
-    scores();
-    half_done_scores();
-    text();
-    bad_layers();
-    bad_fixed();
-    bad_lists();
-    bad_masks();
-    bad_texts();
+fn main(rt: HostRuntime) -> io::Result<()> {
+    results(&rt)?;
+    fixed_results(&rt)?;
+    scores(&rt)?;
+    half_done_scores(&rt)?;
+    text(&rt)?;
+    bad_layers(&rt)?;
+    bad_fixed(&rt)?;
+    bad_lists(&rt)?;
+    bad_masks(&rt)?;
+    bad_texts(&rt)
 }

@@ -1,2 +1,1 @@
 pub mod GatheredCalls
-pub mod Carried

@@ -1,4 +1,6 @@
 // The result text (RULES 10) written into a lent buffer. The loader's calls stand on this crate, and `demands` on how long the text is.
+#![tactic(auto)]
+
 ghost use Rattle.std.specs.Prelude.{◌≡◌, [], ◌∷◌, ◌+◌, ◌<◌, ◌≤◌, length, get_or};
 ghost use Rattle.rules.specs.Answers.{run_of};
 ghost use Rattle.rules.specs.Calls.{buffer_after};

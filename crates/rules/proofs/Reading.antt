@@ -99,7 +99,7 @@ module _ (whole : List ℕ) {R : ℕ → Place → Type 0} (last : ℕ) (most : 
       let r = allowed lineNo (here p (omega arith)) (omega arith) in
       ends_then (number_ends whole expected lineNo text p r.0 r.1) λ n f.
       ends_then (numbers_end more (suc lineNo) n.rest f.1 (omega arith)) λ ns g.
-      accepts (λ i. elim i [ zero ↦ λ l. f.0 | suc i ↦ λ l. g.0 i (omega arith) ], record { first = omega (arith, p.first); counted = omega (arith, g.1.counted) })
+      accepts (λ i. elim i as (λ k. k < suc (length more) → (get_or (expected ∷ more) k (record { key = []; range = λ _. true })).range (get_or (n.number ∷ ns.numbers) k 0) ≡ true) [ zero ↦ λ l. f.0 | suc i ↦ λ l. g.0 i (omega arith) ], record { first = omega (arith, p.first); counted = omega (arith, g.1.counted) })
 
 module _ (whole : List ℕ) where
   -- what is true of n pieces that were read, and of the text after them
@@ -111,11 +111,11 @@ module _ (whole : List ℕ) where
     after : Position whole (lineNo + n) rest
 
   one_more : {n lineNo : ℕ} {ps : List Piece} {rest : List ℕ} (p : Piece) → piece_in_range p ≡ true → has_area p ≡ true → p.fixed ≡ unset → Pieces n (suc lineNo) ps rest → Pieces (suc n) lineNo (p ∷ ps) rest
-  one_more p r a u f = record {
+  one_more {ps = ps} p r a u f = record {
     count = ap suc f.count;
-    ranges = λ i. elim i [ zero ↦ λ h. r | suc i ↦ λ h. f.ranges i (omega arith) ];
-    areas = λ i. elim i [ zero ↦ λ h. a | suc i ↦ λ h. f.areas i (omega arith) ];
-    free = λ i. elim i [ zero ↦ λ h. u | suc i ↦ λ h. f.free i (omega arith) ];
+    ranges = λ i. elim i as (λ k. k < suc (length ps) → piece_in_range (piece_at (p ∷ ps) k) ≡ true) [ zero ↦ λ h. r | suc i ↦ λ h. f.ranges i (omega arith) ];
+    areas = λ i. elim i as (λ k. k < suc (length ps) → has_area (piece_at (p ∷ ps) k) ≡ true) [ zero ↦ λ h. a | suc i ↦ λ h. f.areas i (omega arith) ];
+    free = λ i. elim i as (λ k. k < suc (length ps) → (piece_at (p ∷ ps) k).fixed ≡ unset) [ zero ↦ λ h. u | suc i ↦ λ h. f.free i (omega arith) ];
     after = record { first = omega (arith, f.after.first); counted = omega (arith, f.after.counted) };
   }
 

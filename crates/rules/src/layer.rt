@@ -8,7 +8,7 @@ ghost use Rattle.rules.specs.Settings.{settings_in_range, within};
 use crate::answers::SettingsAnswer;
 use crate::refusal::{Place, Refusal};
 
-#[derive(Drop)]
+#[derive(Clone, Copy)]
 pub struct Settings {
     pub masks: u32,
     pub spacing: u32,
@@ -100,7 +100,7 @@ pub fn in_limits(least: u32, greatest: u32, x: u32) -> bool
 }
 
 // A rectangle, which shape it belongs to, and the mask that the designer has fixed for it, `UNSET` where none is.
-#[derive(Drop)]
+#[derive(Clone, Copy)]
 pub struct Piece {
     pub shape: u32,
     pub x1: u32,
@@ -123,7 +123,7 @@ impl Piece {
 }
 
 // How two pieces are joined: by an edge of the one or the other kind, or by a tie, which puts both on one mask.
-#[derive(Drop)]
+#[derive(Clone, Copy)]
 pub enum Edge {
     Conflict,
     Stitch,

@@ -1,5 +1,7 @@
 // What a reader must believe: the types of the mask decomposer, and in specs/ every rule of
 // docs/RULES.md as an executable definition. All other crates stand on this one.
+#![tactic(auto)]
+
 mod answers;
 mod layer;
 mod refusal;

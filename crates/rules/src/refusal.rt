@@ -4,7 +4,7 @@ ghost use Rattle.rules.specs.Answers.{refusal_number};
 ghost use Rattle.rules.specs.Loader.{place_number};
 
 // One case for each question, in the order of their numbers.
-#[derive(Drop)]
+#[derive(Clone, Copy)]
 pub enum Refusal {
     Buffer,
     TextSize,
@@ -47,7 +47,7 @@ impl Refusal {
 }
 
 // Where the refused input stands: a line from 1, a piece from 0, a record of a stream from 1, or nothing.
-#[derive(Drop)]
+#[derive(Clone, Copy)]
 pub enum Place {
     Line(u32),
     Piece(u32),

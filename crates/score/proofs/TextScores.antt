@@ -108,7 +108,7 @@ same_score s ps ns =
 -- masks that were stored from a text of mask lines, in room for 513
 pub scored_numbers : (layer text masks : List ℕ) (count : ℕ) (answer : ScoreAnswer) → AllStored text masks count → length masks ≡ 513
     → score_answer answer ≡ score_text layer (take count masks) → ScoreOfNumbers layer text answer
-scored_numbers layer text masks count answer a room e =
+scored_numbers layer text _ count answer a room e =
     let ns = a.numbers in
     record {
       numbers = ns;

@@ -11,7 +11,7 @@ fn mask_of(number: u32) -> u8
 }
 
 // The mask of a line and how many bytes the line has, or a line out of form.
-#[derive(Drop)]
+#[derive(Clone, Copy)]
 pub enum MaskLine {
     Mask(u8, usize),
     Bad,
@@ -44,7 +44,7 @@ fn lesser(a: usize, b: usize) -> usize
 }
 
 // How many masks are stored, or the first line, from 1, that is no mask line.
-#[derive(Drop)]
+#[derive(Clone, Copy)]
 pub enum MasksRead {
     Stored(usize),
     Bad(usize),

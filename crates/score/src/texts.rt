@@ -23,7 +23,7 @@ fn score_layer(layer: &[u8], masks: &[u8]) -> ScoreAnswer
 }
 
 // What scoring answers, or the first line, from 1, that is no mask line.
-#[derive(Drop)]
+#[derive(Clone, Copy)]
 pub enum Scored {
     Answer(ScoreAnswer),
     BadLine(usize),

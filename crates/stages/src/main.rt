@@ -5,6 +5,8 @@
 // back and the score, 8 writing the result text, 9 printing it.
 //
 // Two more stand beside these, each after stage 2, and score masks that are all 0: 10 as `score` does, pair by pair, and 11 from adjacency words.
+#![tactic(auto)]
+
 ghost use Rattle.std.specs.Prelude.{◌≡◌, true, [], ◌∷◌, length};
 ghost use Rattle.rules.specs.Questions.{Valid};
 ghost use Rattle.rules.specs.Settings.{settings_in_range};
@@ -12,9 +14,10 @@ ghost use Rattle.layout.specs.Flat.{records_of};
 ghost use Rattle.core_search.specs.Core.{Words};
 ghost use Rattle.decomposer.specs.Stages.{HasPlaces, HasFixed};
 
+use files::read_all;
 use layout::Judgement;
-use libc::{STDIN_FILENO, STDOUT_FILENO};
 use rules::{Piece, ReadAnswer, ScoreAnswer, Settings};
+use std::io;
 
 // The numbers that a search starts with.
 fn numbers_of(settings: Settings) -> [u64; 8]
@@ -151,88 +154,93 @@ fn score_stages(
 
 // Stages 3 to 11, on a list of as many masks as there are pieces.
 fn run_stages(
+    rt: &impl Print,
     last: u32,
     settings: Settings,
     flat: &[u32; 2560],
     fixed: &[u8; 512],
     masks: &mut [u8],
-) -> u64
+) -> io::Result<u64>
     requires { Valid settings (records_of flat.now fixed.now (length masks.old)) }
 {
     if last < 7 {
-        return first_stages(last, settings, flat, fixed, masks);
+        return Ok(first_stages(last, settings, flat, fixed, masks));
     }
     if 9 < last {
-        return score_stages(last, settings, flat, fixed, masks);
+        return Ok(score_stages(last, settings, flat, fixed, masks));
     }
     let result = decomposer::decompose(settings, flat, fixed, masks.len(), masks);
     if last == 7 {
-        return result.steps as u64;
+        return Ok(result.steps as u64);
     }
     let mut buffer = [0u8; 4096];
     let length = result_writer::write_result(&mut buffer, result, masks);
     if last == 9 {
-        io::write_all(STDOUT_FILENO, &buffer[..length]);
+        rt.write_all(&buffer[..length])?;
     }
-    length as u64
+    Ok(length as u64)
 }
 
 // Stages 2 to 11.
-fn judged_stages(last: u32, settings: Settings, pieces: [Piece; 512], count: usize) -> u64 {
+fn judged_stages(
+    rt: &impl Print,
+    last: u32,
+    settings: Settings,
+    pieces: [Piece; 512],
+    count: usize,
+) -> io::Result<u64> {
     if 512 < count {
-        return 0;
+        return Ok(0);
     }
     let mut flat = [0u32; 2560];
     let mut fixed = [0u8; 512];
     layout::flatten(pieces, count, &mut flat, &mut fixed);
     let judgement = fixed_masks::judge(settings, &flat, &fixed, count);
     if let Judgement::Refused(_, _) = judgement {
-        return 0;
+        return Ok(0);
     }
     if last == 2 {
-        return 1;
+        return Ok(1);
     }
     let mut masks = [0u8; 512];
-    run_stages(last, settings, &flat, &fixed, &mut masks[..count])
+    run_stages(rt, last, settings, &flat, &fixed, &mut masks[..count])
 }
 
 // Every stage up to the last one.
-fn stages(last: u32, text: &[u8]) -> u64 {
+fn stages(rt: &impl Print, last: u32, text: &[u8]) -> io::Result<u64> {
     if last == 0 {
-        return 0;
+        return Ok(0);
     }
     let read = text::read_layer(text);
     let answer = read.answer;
     if let ReadAnswer::Refused(_, _) = answer {
-        return 0;
+        return Ok(0);
     }
     if last == 1 {
-        return read.count as u64;
+        return Ok(read.count as u64);
     }
     let pieces = read.pieces;
-    judged_stages(last, read.settings, pieces, read.count)
+    judged_stages(rt, last, read.settings, pieces, read.count)
 }
 
-fn repeated(last: u32, repeats: u32, text: &[u8]) -> u64 {
+fn repeated(rt: &impl Print, last: u32, repeats: u32, text: &[u8]) -> io::Result<u64> {
     let mut sum = 0u64;
     for _ in 0..repeats {
-        sum = std::num::wrapping_add_u64(sum, stages(last, text));
+        sum = sum.wrapping_add(stages(rt, last, text)?);
     }
-    sum
+    Ok(sum)
 }
 
-fn main() {
-    let mut input = io::large_buffer();
-    let n = io::read_full(STDIN_FILENO, &mut input);
+fn main(rt: HostRuntime) -> io::Result<()> {
+    let mut input = [0u8; 65_536];
+    let n = read_all(&mut rt.reader(), &mut input)?;
     let line = lines::read_line(&input[..n], b"stages=", 2);
     let start = line.bytes;
     if n < start {
-        return;
+        return Ok(());
     }
     let last = line.values[0];
     let repeats = line.values[1];
-    let sum = repeated(last, repeats, &input[start..n]);
-    io::write_all(STDOUT_FILENO, b"sum=");
-    io::print_decimal(STDOUT_FILENO, sum);
-    io::write_all(STDOUT_FILENO, b"\n");
+    let sum = repeated(&rt, last, repeats, &input[start..n])?;
+    println!(rt; "sum={sum}")
 }

@@ -1,4 +1,6 @@
 // A settings text and a GDSII stream read into a layer (RULES 16). The loader's call on a stream stands on this crate.
+#![tactic(auto)]
+
 mod read;
 mod settings;
 

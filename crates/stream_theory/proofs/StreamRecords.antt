@@ -83,7 +83,8 @@ abbrev pub AllApart : List Element → Type 0
 AllApart es = (i : ℕ) → i < length es → Apart (get_or es i no_element)
 
 all_cons : (e : Element) (es : List Element) → Apart e → AllApart es → AllApart (e ∷ es)
-all_cons e es a f i = elim i [ zero ↦ λ h. a | suc i ↦ λ h. f i (omega arith) ]
+all_cons e es a f zero h = a
+all_cons e es a f (suc i) h = f i (omega arith)
 
 rectangle_apart : (points digits : List ℕ) → is_rectangle points ≡ true → Apart (element_from points digits)
 unfolding is_rectangle

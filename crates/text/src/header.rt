@@ -10,7 +10,7 @@ use lines::read_line;
 use rules::{Piece, Place, Refusal, Settings, in_limits};
 
 // The number of a line and how many bytes the line has, or a refusal.
-#[derive(Drop)]
+#[derive(Clone, Copy)]
 pub enum NumberAnswer {
     Number(u32, usize),
     Refused(Refusal, Place),
@@ -79,7 +79,7 @@ fn read_setting(text: &[u8], i: usize) -> NumberAnswer
 }
 
 // The settings, the number of pieces and how many bytes the six lines have, or a refusal.
-#[derive(Drop)]
+#[derive(Clone, Copy)]
 pub enum HeaderAnswer {
     Read(Settings, usize, usize),
     Refused(Refusal, Place),

@@ -44,6 +44,10 @@ piece_written lineNo text p e =
     subst (λ (q : PieceRead). (text ≡ piece_line q.piece ++ q.rest) × (q.piece.fixed ≡ unset)) same
     (written.0 ∙ ap (λ (ns : List ℕ). line (ascii "piece=") ns ++ l.rest) (sym (five l.numbers written.1)), refl)
 
+free_cons : (p : Piece) (ps : List Piece) → p.fixed ≡ unset → NoneFixed ps → NoneFixed (p ∷ ps)
+free_cons p ps e others zero h = e
+free_cons p ps e others (suc i) h = others i (omega arith)
+
 -- what is true of n pieces that were read
 pub record Written (n : ℕ) (text : List ℕ) (r : PiecesRead) : Type 0 where
   pub written : text ≡ piece_lines r.pieces ++ r.rest
@@ -64,7 +68,7 @@ pieces_written (suc n) lineNo text r e =
     subst (Written (suc n) text) same (record {
       written = first.0 ∙ ap (λ (t : List ℕ). piece_line p.piece ++ t) others.written ∙ sym (append_assoc (piece_line p.piece) (piece_lines ps.pieces) ps.rest);
       count = ap suc others.count;
-      free = λ i. elim i [ zero ↦ λ h. first.1 | suc i ↦ λ h. others.free i (omega arith) ];
+      free = free_cons p.piece ps.pieces first.1 others.free;
     })
 
 -- ---- What is written is read so

@@ -1,6 +1,8 @@
 // Units (RULES 17): pieces that ties connect have one mask, so the decomposition's vertices are units. Here each piece gets the number of its unit, the
 // adjacency words of pieces are merged into those of units, and masks that are given for pieces are noted of their units. The search, the scoring, the
 // judging of fixed masks and the decomposition stand on this crate.
+#![tactic(auto)]
+
 mod merging;
 mod noting;
 mod numbering;

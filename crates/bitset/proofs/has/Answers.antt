@@ -1,0 +1,12 @@
+-- `bitset::has` meets its contract: the bit is tested after a shift. Assumes nothing.
+use Prim.Native.Nat.{◌/◌, ◌%◌}
+use lib.ListN.{get_or}
+use Rattle.bitset.specs.Bits.{member}
+use Rattle.bitset.proofs.Words.{bit_test}
+use Rattle.bitset.proofs.has.Goals as goal
+
+pub returns : goal.returns
+unfolding member
+returns c =
+    let at = c.args in
+    bit_test (get_or at.s.now (at.j / 64) 0) (at.j % 64)

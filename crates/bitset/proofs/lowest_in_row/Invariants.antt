@@ -1,0 +1,13 @@
+-- `bitset::lowest_in_row` meets its contract. The invariant: nothing below the word w is both in the row and in the set.
+-- Assumes nothing.
+use mathlib.Core.Path.{◌≡◌}
+use mathlib.Core.Bool.{false}
+use Prim.Native.Nat.{ℕ, ◌≤◌, ◌<◌, ◌*◌, ◌-◌}
+use Rattle.bitset.specs.Bits.{both}
+use Rattle.bitset.proofs.lowest_in_row.Given as goal
+
+abbrev pub invariant-loop-w : goal.invariant-loop-w
+invariant-loop-w l = (l.w ≤ 8) × ((k : ℕ) → k < 64 * l.w → both l.adj l.i l.s k ≡ false)
+
+abbrev pub decreases-loop-w : goal.decreases-loop-w
+decreases-loop-w l = 8 - l.w

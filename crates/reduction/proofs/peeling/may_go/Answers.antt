@@ -1,0 +1,26 @@
+-- `may_go`: a fixed vertex stays; of another the two counts are the rules' degrees. Assumes nothing.
+use mathlib.Core.Path.{◌≡◌, sym, ◌∙◌}
+use native.Mathlib.Omega.{arith}
+use lib.ListN.{get_or}
+use Rattle.rules.specs.Settings.{unset}
+use Rattle.rules.proofs.Lists.{default_same}
+use Rattle.adjacency.specs.UnitGraph.{fixed_at}
+use Rattle.reduction.proofs.PeelLaws.{go_fixed, go_unstitched, go_pendant, go_never}
+use Rattle.reduction.proofs.peeling.may_go.Goals as goal
+use Rattle.reduction.proofs.peeling.may_go.Goals.{Start}
+
+-- the byte that is read is the fixed mask
+read : (c : Start) → get_or c.args.fixed.now c.args.v 0 ≡ fixed_at c.args.fixed.now c.args.v
+read c = default_same c.args.fixed.now c.args.v 0 unset (omega (arith, c.requires.0))
+
+pub returns-then-fixed-v : goal.returns-then-fixed-v
+returns-then-fixed-v c = go_fixed _ _ _ _ _ (λ e. c.if-fixed-v.true (read (goal.at.returns-then-fixed-v c).Start ∙ e))
+
+pub returns-then-stitched-eq0 : goal.returns-then-stitched-eq0
+returns-then-stitched-eq0 c = go_unstitched _ _ _ _ _ _ _ _ c.intersection_size-near.ensures c.intersection_size-stitched.ensures (sym (read (goal.at.returns-then-stitched-eq0 c).Start) ∙ c.if-fixed-v.false) c.if-stitched-eq0.true
+
+pub returns-then-stitched-eq1 : goal.returns-then-stitched-eq1
+returns-then-stitched-eq1 c = go_pendant _ _ _ _ _ _ _ _ c.intersection_size-near.ensures c.intersection_size-stitched.ensures (sym (read (goal.at.returns-then-stitched-eq1 c).Start) ∙ c.if-fixed-v.false) c.if-stitched-eq1.true
+
+pub returns : goal.returns
+returns c = go_never _ _ _ _ _ _ _ _ c.intersection_size-near.ensures c.intersection_size-stitched.ensures (sym (read (goal.at.returns c).Start) ∙ c.if-fixed-v.false) c.if-stitched-eq0.false c.if-stitched-eq1.false
