@@ -29,7 +29,7 @@ module _ (start : Start) where
 module _ (last : Else-not-all_listed) where
   all-passed : served last.args.masks ((list_graph last.args.starts.now last.args.list.now)) ((fixed_to last.args.fixed.now last.args.size)) last.args.size ≡ true
   all-passed =
-      serves last.args.masks ((list_graph last.args.starts.now last.args.list.now)) ((fixed_to last.args.fixed.now last.args.size)) last.args.size last.if-masks-ne3.false
+      serves last.args.masks ((list_graph last.args.starts.now last.args.list.now)) ((fixed_to last.args.fixed.now last.args.size)) last.args.size (omega arith)
       last.if-size-gt5.false
       (sym last.has_fixed.ensures ∙ last.if-has_fixed.false)
       (passed last.all_listed.result _ last.all_listed.ensures (ap not last.if-not-all_listed.false))
