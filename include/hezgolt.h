@@ -3,7 +3,7 @@
  *
  * One function takes the bytes of a layer text and gives the bytes of a result text; a second one takes the rectangles from a
  * GDSII stream instead. docs/RULES.md describes the texts, in sections 9 and 10, and the stream. `tools/build loader_c` makes
- * the library, target/staticlib/libloader.a, for x86-64 Linux. Of the C library it needs memcpy, memmove and memset, and
+ * the library, target/staticlib/libloader.a, for Linux on x86-64-v2. Of the C library it needs memcpy, memmove and memset, and
  * nothing else.
  */
 #ifndef HEZGOLT_H
