@@ -65,7 +65,8 @@ pub fn read_file(rt: &(impl Files + Eprint), path: &[u8], buffer: &mut [u8]) -> 
 
 // ---- arguments
 
-// How many arguments the program was started with, its own name among them.
+// How many arguments the program was started with, its own name among them. Nothing is promised of it: which there are is the system's
+// to say, and no contract can name them.
 pub fn argument_count(rt: &impl Env) -> usize {
     for i in 0..usize::MAX {
         if let Err(FillError::NotPresent) = rt.arg(i, &mut []) {
