@@ -1,40 +1,57 @@
-// How far two intervals overlap, and how far they are apart. Where the difference of RULES 2 is
-// negative the overlap is 0, and where it is positive the gap is 0.
+// How far two intervals overlap, and how far they are apart. Where the difference of RULES 2 is negative the overlap is 0, and where
+// it is positive the gap is 0.
 ghost use Rattle.std.specs.Prelude.{◌≡◌, ◌+◌, ◌-◌, min, max, eqb};
 
-pub fn lesser(a: u32, b: u32) -> u32
-    ensures { result ≡ min a b }
-{
-    if a < b { a } else { b }
+use rules::Piece;
+
+// What a piece covers in one direction.
+#[derive(Clone, Copy)]
+pub struct Interval {
+    pub from: u32,
+    pub to: u32,
 }
 
-pub fn greater(a: u32, b: u32) -> u32
-    ensures { result ≡ max a b }
-{
-    if a < b { b } else { a }
-}
+impl Interval {
+    // What the piece covers in X.
+    pub fn in_x(p: Piece) -> Interval
+        ensures { result ≡ record { from = p.x1; to = p.x2 } }
+    {
+        Interval {
+            from: p.x1,
+            to: p.x2,
+        }
+    }
 
-// The overlap of the intervals from a1 to a2 and from b1 to b2.
-pub fn overlap(a1: u32, a2: u32, b1: u32, b2: u32) -> u32
-    ensures { result ≡ min a2 b2 - max a1 b1 }
-{
-    let end = lesser(a2, b2);
-    let start = greater(a1, b1);
-    if start < end { end - start } else { 0 }
-}
+    // And in Y.
+    pub fn in_y(p: Piece) -> Interval
+        ensures { result ≡ record { from = p.y1; to = p.y2 } }
+    {
+        Interval {
+            from: p.y1,
+            to: p.y2,
+        }
+    }
 
-// The gap between them.
-pub fn gap(a1: u32, a2: u32, b1: u32, b2: u32) -> u32
-    ensures { result ≡ max a1 b1 - min a2 b2 }
-{
-    let end = lesser(a2, b2);
-    let start = greater(a1, b1);
-    if end < start { start - end } else { 0 }
-}
+    pub fn overlap(self, other: Interval) -> u32
+        ensures { result ≡ min self.to other.to - max self.from other.from }
+    {
+        self.to
+            .min(other.to)
+            .saturating_sub(self.from.max(other.from))
+    }
 
-// Whether they meet in one point: neither overlap nor gap.
-pub fn meet(a1: u32, a2: u32, b1: u32, b2: u32) -> bool
-    ensures { result ≡ eqb ((min a2 b2 - max a1 b1) + (max a1 b1 - min a2 b2)) 0 }
-{
-    lesser(a2, b2) == greater(a1, b1)
+    pub fn gap(self, other: Interval) -> u32
+        ensures { result ≡ max self.from other.from - min self.to other.to }
+    {
+        self.from
+            .max(other.from)
+            .saturating_sub(self.to.min(other.to))
+    }
+
+    // Whether the two meet in one point: neither overlap nor gap.
+    pub fn meets(self, other: Interval) -> bool
+        ensures { result ≡ eqb ((min self.to other.to - max self.from other.from) + (max self.from other.from - min self.to other.to)) 0 }
+    {
+        self.to.min(other.to) == self.from.max(other.from)
+    }
 }

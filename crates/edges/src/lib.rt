@@ -5,5 +5,4 @@
 mod distance;
 mod pair;
 
-pub use distance::{greater, lesser};
 pub use pair::{judged_edge, pieces_overlap, tie};

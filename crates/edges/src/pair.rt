@@ -1,19 +1,33 @@
 // What two pieces are to each other: whether they overlap, how far they are apart, how far they touch, and the edge between them (RULES 2 and 17).
 ghost use Rattle.std.specs.Prelude.{true, ◌≡◌, ◌*◌, ◌≤◌};
 ghost use Rattle.rules.specs.Settings.{settings_in_range, piece_in_range};
-ghost use Rattle.rules.specs.Edges.{overlapping, contact, squared_gap, conflict_edge, stitch_edge, tied, edge_of};
+ghost use Rattle.rules.specs.Edges.{overlapping, overlap_x, overlap_y, contact, squared_gap, conflict_edge, stitch_edge, tied, edge_of};
 
-use crate::distance::{gap, meet, overlap};
+use crate::distance::Interval;
 use rules::{Edge, Piece, Settings};
 
 // Whether two pieces of one shape overlap.
+#[tactic(auto, unfolding(rules::specs::Edges::overlapping, rules::specs::Edges::overlap_x, rules::specs::Edges::overlap_y))]
 pub fn pieces_overlap(a: Piece, b: Piece) -> bool
     ensures { result ≡ overlapping a b }
 {
-    if a.shape != b.shape {
-        return false;
-    }
-    0 < overlap(a.x1, a.x2, b.x1, b.x2) && 0 < overlap(a.y1, a.y2, b.y1, b.y2)
+    a.shape == b.shape && 0 < overlap_x(a, b) && 0 < overlap_y(a, b)
+}
+
+// How far they overlap in X.
+#[tactic(auto, unfolding(rules::specs::Edges::overlap_x))]
+fn overlap_x(a: Piece, b: Piece) -> u32
+    ensures { result ≡ overlap_x a b }
+{
+    Interval::in_x(a).overlap(Interval::in_x(b))
+}
+
+// And in Y.
+#[tactic(auto, unfolding(rules::specs::Edges::overlap_y))]
+fn overlap_y(a: Piece, b: Piece) -> u32
+    ensures { result ≡ overlap_y a b }
+{
+    Interval::in_y(a).overlap(Interval::in_y(b))
 }
 
 // The square of a length. That of the greatest coordinate does not fit 32 bits.
@@ -21,7 +35,7 @@ fn square(x: u32) -> u64
     requires { x ≤ 1000000 }
     ensures { result ≡ x * x }
 {
-    let wide = x as u64;
+    let wide = u64::from(x);
     wide * wide
 }
 
@@ -31,48 +45,46 @@ fn squared_gap(a: Piece, b: Piece) -> u64
     requires b_value { piece_in_range b ≡ true }
     ensures { result ≡ squared_gap a b }
 {
-    let gx = gap(a.x1, a.x2, b.x1, b.x2);
-    let gy = gap(a.y1, a.y2, b.y1, b.y2);
+    let gx = Interval::in_x(a).gap(Interval::in_x(b));
+    let gy = Interval::in_y(a).gap(Interval::in_y(b));
     square(gx) + square(gy)
 }
 
 // Whether a conflict edge joins two pieces.
+#[tactic(auto, using(rules::proofs::Ranges::settings_facts), unfolding(rules::specs::Edges::conflict_edge))]
 fn conflict(settings: Settings, a: Piece, b: Piece) -> bool
     requires settings_value { settings_in_range settings ≡ true }
     requires a_value { piece_in_range a ≡ true }
     requires b_value { piece_in_range b ≡ true }
     ensures { result ≡ conflict_edge settings a b }
 {
-    if a.shape == b.shape {
-        return false;
-    }
-    squared_gap(a, b) < square(settings.spacing)
+    a.shape != b.shape && squared_gap(a, b) < square(settings.spacing)
 }
 
 // The length along which two pieces touch.
+#[tactic(auto, unfolding(rules::specs::Edges::contact, rules::specs::Edges::overlap_x, rules::specs::Edges::overlap_y, rules::specs::Edges::gap_x, rules::specs::Edges::gap_y))]
 fn contact_length(a: Piece, b: Piece) -> u32
     ensures { result ≡ contact a b }
 {
-    if meet(a.x1, a.x2, b.x1, b.x2) {
-        return overlap(a.y1, a.y2, b.y1, b.y2);
+    if Interval::in_x(a).meets(Interval::in_x(b)) {
+        overlap_y(a, b)
+    } else if Interval::in_y(a).meets(Interval::in_y(b)) {
+        overlap_x(a, b)
+    } else {
+        0
     }
-    if meet(a.y1, a.y2, b.y1, b.y2) {
-        return overlap(a.x1, a.x2, b.x1, b.x2);
-    }
-    0
 }
 
 // Whether a stitch edge joins two pieces.
+#[tactic(auto, unfolding(rules::specs::Edges::stitch_edge))]
 fn stitch(settings: Settings, a: Piece, b: Piece) -> bool
     ensures { result ≡ stitch_edge settings a b }
 {
-    if a.shape != b.shape {
-        return false;
-    }
-    settings.margin <= contact_length(a, b)
+    a.shape == b.shape && settings.margin <= contact_length(a, b)
 }
 
 // Whether two pieces are tied.
+#[tactic(auto, unfolding(rules::specs::Edges::tied))]
 pub fn tie(settings: Settings, a: Piece, b: Piece) -> bool
     ensures { result ≡ tied settings a b }
 {
@@ -84,6 +96,7 @@ pub fn tie(settings: Settings, a: Piece, b: Piece) -> bool
 }
 
 // The edge between two pieces that are judged.
+#[tactic(auto, unfolding(rules::specs::Edges::edge_of))]
 pub fn judged_edge(settings: Settings, a: Piece, b: Piece) -> Edge
     requires settings_value { settings_in_range settings ≡ true }
     requires a_value { piece_in_range a ≡ true }
@@ -91,13 +104,12 @@ pub fn judged_edge(settings: Settings, a: Piece, b: Piece) -> Edge
     ensures { result ≡ edge_of settings a b }
 {
     if conflict(settings, a, b) {
-        return Edge::Conflict;
+        Edge::Conflict
+    } else if stitch(settings, a, b) {
+        Edge::Stitch
+    } else if tie(settings, a, b) {
+        Edge::Tie
+    } else {
+        Edge::None
     }
-    if stitch(settings, a, b) {
-        return Edge::Stitch;
-    }
-    if tie(settings, a, b) {
-        return Edge::Tie;
-    }
-    Edge::None
 }

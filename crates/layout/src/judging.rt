@@ -1,40 +1,29 @@
-// Questions 4 to 6 and 13 of a layer in numbers (RULES 11).
-ghost use Rattle.std.specs.Prelude.{◌≡◌, ◌≤◌, ◌<◌};
+// Questions 4 to 6 and 13 of lent records (RULES 11).
+ghost use Rattle.std.specs.Prelude.{◌≡◌, ◌≤◌, ◌<◌, length};
 ghost use Rattle.rules.specs.declared.refusal.Place.{Place};
+ghost use Rattle.rules.specs.Answers.{answer_of};
 ghost use Rattle.rules.specs.Basics.{any_of, up_to};
-ghost use Rattle.rules.specs.Settings.{piece_in_range, has_area, fixed_in_range};
+ghost use Rattle.rules.specs.Settings.{piece_in_range, has_area, fixed_in_range, piece_at};
 ghost use Rattle.rules.specs.Edges.{overlapping};
-ghost use Rattle.rules.specs.Questions.{ask_each, judge_piece, judge_record, judge_records, judge_overlaps, with_fixed};
-ghost use Rattle.layout.specs.Flat.{piece_of, pieces_of, record_of, records_of};
-ghost use Rattle.layout.specs.Judged.{judgement};
+ghost use Rattle.rules.specs.Questions.{ask_each, judge_piece, judge_record, judge_records, judge_overlaps};
 
-use crate::flat::piece_at;
 use edges::pieces_overlap;
-use rules::{Piece, Place, Refusal, Settings};
-
-#[derive(Clone, Copy)]
-pub enum Judgement {
-    Passed,
-    Refused(Refusal, Place),
-}
+use rules::{Piece, Place, Refusal, Refused, Settings};
 
 // Whether each number of a piece is in its range.
+#[tactic(auto, unfolding(rules::specs::Settings::piece_in_range))]
 pub fn piece_in_range(p: Piece) -> bool
     ensures { result ≡ piece_in_range p }
 {
-    if Piece::SHAPE_GREATEST < p.shape {
-        return false;
-    }
-    if Piece::COORDINATE_GREATEST < p.x1 {
-        return false;
-    }
-    if Piece::COORDINATE_GREATEST < p.y1 {
-        return false;
-    }
-    p.x2 <= Piece::COORDINATE_GREATEST && p.y2 <= Piece::COORDINATE_GREATEST
+    p.shape <= Piece::SHAPE_GREATEST
+        && p.x1 <= Piece::COORDINATE_GREATEST
+        && p.y1 <= Piece::COORDINATE_GREATEST
+        && p.x2 <= Piece::COORDINATE_GREATEST
+        && p.y2 <= Piece::COORDINATE_GREATEST
 }
 
 // Whether a piece has width and height.
+#[tactic(auto, unfolding(rules::specs::Settings::has_area))]
 pub fn has_area(p: Piece) -> bool
     ensures { result ≡ has_area p }
 {
@@ -42,101 +31,92 @@ pub fn has_area(p: Piece) -> bool
 }
 
 // Questions 4 and 5 of one piece.
-pub fn judge_piece(place: Place, p: Piece) -> Judgement
-    ensures { judgement result ≡ judge_piece place p }
+#[tactic(auto, unfolding(rules::specs::Questions::judge_piece))]
+pub fn judge_piece(place: Place, p: Piece) -> Result<(), Refused>
+    ensures { answer_of result ≡ judge_piece place p }
 {
     if !piece_in_range(p) {
-        return Judgement::Refused(Refusal::Range, place);
+        return Err(Refusal::Range.at(place));
     }
     if !has_area(p) {
-        return Judgement::Refused(Refusal::Area, place);
+        return Err(Refusal::Area.at(place));
     }
-    Judgement::Passed
+    Ok(())
 }
 
 // Whether a fixed mask is below the limit, or there is none.
 fn fixed_in_range(limit: u32, mask: u8) -> bool
     ensures { result ≡ fixed_in_range limit mask }
 {
-    mask == Piece::UNSET || (mask as u32) < limit
+    mask == Piece::UNSET || u32::from(mask) < limit
 }
 
-// Questions 4, 13 and 5 of one piece, with its fixed mask beside it.
-pub fn judge_record(masks: u32, place: Place, p: Piece, fixed: u8) -> Judgement
-    ensures { judgement result ≡ judge_record masks place (with_fixed fixed p) }
+// Questions 4, 13 and 5 of one record.
+#[tactic(auto, unfolding(rules::specs::Questions::judge_record))]
+pub fn judge_record(masks: u32, place: Place, p: Piece) -> Result<(), Refused>
+    ensures { answer_of result ≡ judge_record masks place p }
 {
     if !piece_in_range(p) {
-        return Judgement::Refused(Refusal::Range, place);
+        return Err(Refusal::Range.at(place));
     }
-    if !fixed_in_range(masks, fixed) {
-        return Judgement::Refused(Refusal::FixedRange, place);
+    if !fixed_in_range(masks, p.fixed) {
+        return Err(Refusal::FixedRange.at(place));
     }
     if !has_area(p) {
-        return Judgement::Refused(Refusal::Area, place);
+        return Err(Refusal::Area.at(place));
     }
-    Judgement::Passed
+    Ok(())
 }
 
-// Questions 4, 13 and 5 of the first n pieces.
-pub fn judge_each(masks: u32, flat: &[u32; 2560], fixed: &[u8; 512], n: usize) -> Judgement
-    requires { n ≤ 512 }
-    ensures { judgement result ≡ ask_each (λ i. judge_record masks (Place.Piece i) (record_of flat.now fixed.now i)) n }
+// Questions 4, 13 and 5 of each piece.
+pub fn judge_each(masks: u32, pieces: &[Piece]) -> Result<(), Refused>
+    requires { length pieces.now ≤ 512 }
+    ensures { answer_of result ≡ ask_each (λ i. judge_record masks (Place.Piece i) (piece_at pieces.now i)) (length pieces.now) }
 {
-    let mut i = 0;
-    while i < n {
-        let judged = judge_record(masks, Place::Piece(i as u32), piece_at(flat, i), fixed[i]);
-        if let Judgement::Refused(refusal, place) = judged {
-            return Judgement::Refused(refusal, place);
-        }
-        i += 1;
+    for (i, piece) in pieces.iter().enumerate() {
+        judge_record(masks, Place::Piece(i as u32), *piece)?;
     }
-    Judgement::Passed
+    Ok(())
 }
 
 // Whether piece j overlaps an earlier one of its shape.
-fn overlaps_earlier(flat: &[u32; 2560], j: usize) -> bool
-    requires { j < 512 }
-    ensures { result ≡ any_of (λ i. overlapping (piece_of flat.now i) (piece_of flat.now j)) (up_to j) }
+fn overlaps_earlier(pieces: &[Piece], j: usize) -> bool
+    requires { j < length pieces.now }
+    ensures { result ≡ any_of (λ i. overlapping (piece_at pieces.now i) (piece_at pieces.now j)) (up_to j) }
 {
-    let p = piece_at(flat, j);
-    let mut i = 0;
-    while i < j {
-        if pieces_overlap(piece_at(flat, i), p) {
+    let piece = pieces[j];
+    for earlier in &pieces[..j] {
+        if pieces_overlap(*earlier, piece) {
             return true;
         }
-        i += 1;
     }
     false
 }
 
-// Question 6 of the first n pieces.
-pub fn judge_overlaps(flat: &[u32; 2560], n: usize) -> Judgement
-    requires { n ≤ 512 }
-    ensures { judgement result ≡ judge_overlaps (pieces_of flat.now n) }
+// Question 6 of the pieces.
+pub fn judge_overlaps(pieces: &[Piece]) -> Result<(), Refused>
+    requires { length pieces.now ≤ 512 }
+    ensures { answer_of result ≡ judge_overlaps pieces.now }
 {
-    let mut j = 0;
-    while j < n {
-        if overlaps_earlier(flat, j) {
-            return Judgement::Refused(Refusal::Overlap, Place::Piece(j as u32));
+    for j in 0..pieces.len() {
+        if overlaps_earlier(pieces, j) {
+            return Err(Refusal::Overlap.at(Place::Piece(j as u32)));
         }
-        j += 1;
     }
-    Judgement::Passed
+    Ok(())
 }
 
-// Questions 4 to 6 and 13 of the layer of the first n pieces. Past 512 the arrays state no pieces, and n alone is refused.
-pub fn judge(settings: Settings, flat: &[u32; 2560], fixed: &[u8; 512], n: usize) -> Judgement
-    ensures { judgement result ≡ judge_records settings (records_of flat.now fixed.now n) }
+// Questions 4 to 6 and 13 of the layer of these pieces.
+#[tactic(auto, unfolding(rules::specs::Questions::judge_records))]
+pub fn judge(settings: Settings, pieces: &[Piece]) -> Result<(), Refused>
+    ensures { answer_of result ≡ judge_records settings pieces.now }
 {
     if !settings.in_range() {
-        return Judgement::Refused(Refusal::Range, Place::Nothing);
+        return Err(Refusal::Range.at(Place::Nothing));
     }
-    if Piece::COUNT_GREATEST < n {
-        return Judgement::Refused(Refusal::Range, Place::Nothing);
+    if Piece::COUNT_GREATEST < pieces.len() {
+        return Err(Refusal::Range.at(Place::Nothing));
     }
-    let pieces = judge_each(settings.masks, flat, fixed, n);
-    if let Judgement::Refused(refusal, place) = pieces {
-        return Judgement::Refused(refusal, place);
-    }
-    judge_overlaps(flat, n)
+    judge_each(settings.masks, pieces)?;
+    judge_overlaps(pieces)
 }

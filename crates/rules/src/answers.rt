@@ -1,21 +1,11 @@
-// The answers of the public calls (RULES 12): a value, or a refusal with its place.
-use crate::layer::{Edge, Piece, Settings};
-use crate::refusal::{Place, Refusal};
-
-#[derive(Clone, Copy)]
-pub enum SettingsAnswer {
-    Accepted(Settings),
-    Refused(Refusal, Place),
-}
-
-#[derive(Clone, Copy)]
-pub enum EdgeAnswer {
-    Found(Edge),
-    Refused(Refusal, Place),
-}
+// What the public calls answer (RULES 12), beside the refusal that each of them may give.
+use crate::layer::{Piece, Settings};
+use crate::refusal::Refused;
+use std::fmt;
+use std::fmt::Display;
 
 // What masks cost (RULES 3).
-#[derive(Clone, Copy)]
+#[derive(Clone, Copy, Debug, PartialEq, Eq)]
 pub struct Score {
     pub conflicts: u32,
     pub stitches: u32,
@@ -23,27 +13,30 @@ pub struct Score {
 }
 
 // What scoring answers: the score, and beside it how many unordered pairs of pieces were tested for an edge.
-#[derive(Clone, Copy)]
+#[derive(Clone, Copy, Debug, PartialEq, Eq)]
 pub struct Scoring {
     pub score: Score,
     pub tested: u32,
 }
 
-#[derive(Clone, Copy)]
-pub enum ScoreAnswer {
-    Scored(Scoring),
-    Refused(Refusal, Place),
-}
-
 // Best: the search ended within the budget. Open: it did not.
-#[derive(Clone, Copy)]
+#[derive(Clone, Copy, Debug, PartialEq, Eq)]
 pub enum Verdict {
     Best,
     Open,
 }
 
+impl Display for Verdict {
+    fn fmt<W: fmt::Write>(&self, f: &mut fmt::Formatter<W>) -> fmt::Result {
+        match self {
+            Verdict::Best => f.write_str("best"),
+            Verdict::Open => f.write_str("open"),
+        }
+    }
+}
+
 // What a run answers beside its masks, which lie in the list that the caller lent.
-#[derive(Clone, Copy)]
+#[derive(Clone, Copy, Debug, PartialEq, Eq)]
 pub struct Decomposition {
     pub conflicts: u32,
     pub stitches: u32,
@@ -52,29 +45,12 @@ pub struct Decomposition {
     pub verdict: Verdict,
 }
 
-#[derive(Clone, Copy)]
-pub enum DecomposeAnswer {
-    Decomposed(Decomposition),
-    Refused(Refusal, Place),
-}
-
-#[derive(Clone, Copy)]
-pub enum ReadAnswer {
-    Read,
-    Refused(Refusal, Place),
-}
-
-// A layer that was read. The records after `count` are zero, and after a refusal all is zero.
+// A layer that was read. The records after `count` are zero. The rules hand back settings and records after a refusal too, all zero, so
+// the answer stands beside them and not around them.
 #[derive(Clone, Copy)]
 pub struct LayerRead {
-    pub answer: ReadAnswer,
+    pub answer: Result<(), Refused>,
     pub settings: Settings,
     pub count: usize,
     pub pieces: [Piece; 512],
-}
-
-#[derive(Clone, Copy)]
-pub enum WriteAnswer {
-    Written(usize),
-    Refused(Refusal, Place),
 }

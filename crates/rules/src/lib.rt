@@ -6,9 +6,6 @@ mod answers;
 mod layer;
 mod refusal;
 
-pub use answers::{
-    DecomposeAnswer, Decomposition, EdgeAnswer, LayerRead, ReadAnswer, Score, ScoreAnswer, Scoring,
-    SettingsAnswer, Verdict, WriteAnswer,
-};
+pub use answers::{Decomposition, LayerRead, Score, Scoring, Verdict};
 pub use layer::{Edge, Piece, Settings, in_limits};
-pub use refusal::{Place, Refusal};
+pub use refusal::{Place, Refusal, Refused};

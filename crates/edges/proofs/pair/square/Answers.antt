@@ -4,4 +4,4 @@ use Rattle.edges.proofs.Squares.{square}
 use Rattle.edges.proofs.pair.square.Goals as goal
 
 pub overflow_mul-result : goal.overflow_mul-result
-overflow_mul-result c = omega (arith, square {g = c.args.x} (omega arith))
+overflow_mul-result c = rw c.from-wide.ensures (omega (arith, square {g = c.args.x} (omega arith)))

@@ -11,8 +11,10 @@ use Rattle.edges.proofs.pair.squared_gap.Goals.{After-gap-gy}
 small : (c : After-gap-gy) → (c.gap-gx.result ≤ 1_000_000) × (c.gap-gy.result ≤ 1_000_000)
 small c =
     let a = piece_facts _ c.requires.a_value in
-    let b = piece_facts _ c.requires.b_value in
-    (omega (arith, c.gap-gx.ensures), omega (arith, c.gap-gy.ensures))
+    let b = piece_facts _ c.requires.b_value in (
+      omega (arith, rw (c.in_x.ensures, c.in_x-2.ensures) at c.gap-gx.ensures),
+      omega (arith, rw (c.in_y.ensures, c.in_y-2.ensures) at c.gap-gy.ensures),
+    )
 
 pub square-requires : goal.square-requires
 square-requires c = (small (goal.at.square-requires c).After-gap-gy).0
@@ -25,4 +27,14 @@ overflow_add-result c = omega (arith, square (small (goal.at.overflow_add-result
 
 pub returns : goal.returns
 unfolding squared_gap gap_x gap_y
-returns c = rw (c.square.ensures, c.square-2.ensures, c.gap-gx.ensures, c.gap-gy.ensures)
+returns c =
+    rw (
+      c.square.ensures,
+      c.square-2.ensures,
+      c.gap-gx.ensures,
+      c.gap-gy.ensures,
+      c.in_x.ensures,
+      c.in_x-2.ensures,
+      c.in_y.ensures,
+      c.in_y-2.ensures,
+    )
