@@ -4,17 +4,16 @@
 use mathlib.Core.Path.{◌≡◌, refl, ap, ap₂, ◌∙◌}
 use mathlib.Core.Bool.{Bool, true, false, not, ◌&&◌, ◌||◌, and-true, or-true, or-false}
 use Prim.Native.Nat.{ℕ, zero, suc, ◌+◌, ◌-◌, ◌/◌, ◌%◌, ◌^◌, ◌≤◌, ◌<◌}
-use native.Mathlib.Nat.{add-zero, add-suc, add_assoc, lt_of_le_of_lt}
+use native.Mathlib.Nat.{add-zero, add-suc, add_assoc}
 use native.Mathlib.Numerals.{add-one}
 use native.Mathlib.Decide.{ℕ_discrete}
 use native.Mathlib.Omega.{arith}
 use lib.Dec.{eqb, ltb}
-use lib.Bits.{bit_and, and_le_l}
 use lib.Count.{ones, ones_step, ones-le}
 use mir.Val.{bool_byte}
 use borrow.Author.Tests.{eq-eqb, ne_eqb, not-true, lt-ltb, le-ltb}
-use Rattle.bitset.specs.Bits.{bit, count_below}
-use Rattle.bitset.proofs.Words.{bit_zero, bit_suc, bit-and, by_digit}
+use Rattle.bitset.specs.Bits.{bit, count_below, Size}
+use Rattle.bitset.proofs.Words.{bit_zero, bit_suc, by_digit}
 
 -- ---- one number more; tests that agree below the bound; the bound
 
@@ -26,6 +25,9 @@ pub count_ext : (n : ℕ) {f g : ℕ → Bool} → ((k : ℕ) → k < n → f k 
 unfolding count_below
 count_ext zero h = refl
 count_ext (suc n) h = ap₂ (λ (x : ℕ) (b : Bool). x + bool_byte b) (count_ext n (λ k l. h k (omega arith))) (h n (omega arith))
+
+pub size_same : {f g : ℕ → Bool} {r : ℕ} → ((k : ℕ) → k < 512 → f k ≡ g k) → Size f r → Size g r
+size_same same size = record { count = size.count ∙ count_ext 512 same; within = size.within }
 
 byte_le : (b : Bool) → bool_byte b ≤ 1
 byte_le true = omega arith
@@ -148,7 +150,7 @@ count_in_le (suc n) f j = go (ℕ_discrete n j) (count_in_le n f j)
         omega (arith, same, byte_le (f n || eqb n j))
     go (no q) ih = rw (ne_eqb n j q, or-false (f n)) (omega arith)
 
--- ---- `count_ones` of a word of w bits, and of `a & b`
+-- ---- `count_ones` of a word of w bits
 
 pub count_bits : (w x : ℕ) → x < 2 ^ w → ones x ≡ count_below w (bit x)
 unfolding count_below
@@ -156,6 +158,3 @@ count_bits zero x h = omega (arith, ones-le 0 x h)
 count_bits (suc w) x h =
     let low : bool_byte (bit x 0) ≡ x % 2 = rw bit_zero (by_digit (λ d. bool_byte (eqb d 1) ≡ d) refl refl x) in
     rw (ones_step x, count_first w (bit x), low) (simp bit_suc (ap (λ (n : ℕ). x % 2 + n) (count_bits w (x / 2) (omega arith))))
-
-pub count_both : (w a b : ℕ) → a < 2 ^ w → ones (bit_and a b) ≡ count_below w (λ k. bit a k && bit b k)
-count_both w a b h = count_bits w (bit_and a b) (lt_of_le_of_lt (and_le_l a b) h) ∙ count_ext w (λ k l. bit-and a b k)

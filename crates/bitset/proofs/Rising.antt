@@ -9,7 +9,8 @@ use native.Mathlib.Decide.{dec_lt, ℕ_discrete}
 use native.Mathlib.Omega.{arith}
 use lib.Dec.{eqb, leb}
 use borrow.Author.Tests.{leb-true, le-leb, lt-leb, eq-eqb, ne_eqb}
-use Rattle.bitset.specs.Bits.{bit, count_below, First, LowestSet}
+use Rattle.std.specs.Prelude.{Option, None, Some}
+use Rattle.bitset.specs.Bits.{bit, count_below, First, Least, LowestSet}
 use Rattle.bitset.proofs.Counts.{count_ext, count_out}
 use Rattle.bitset.proofs.Words.{bit_of_zero}
 
@@ -84,3 +85,24 @@ module _ (f : ℕ → Bool) (w x : ℕ) (word : (k : ℕ) → k < 64 → f (64 *
 
 pub first_none : (f : ℕ → Bool) → ((k : ℕ) → k < 512 → f k ≡ false) → First f 512
 first_none f none = record { within = omega arith; before = none; found = λ l. absurd (omega arith) }
+
+-- ---- the least one as an `Option`: of a test that agrees below 512, and as `First` has it, with 512 for none
+
+pub least_same : {f g : ℕ → Bool} → ((k : ℕ) → k < 512 → f k ≡ g k) → (o : Option ℕ) → Least f o → Least g o
+least_same same None none = λ k h. sym (same k h) ∙ none k h
+least_same same (Some r) (h, first) = (
+  h,
+  record {
+    within = first.within;
+    before = λ k l. sym (same k (omega arith)) ∙ first.before k l;
+    found = λ l. sym (same r l) ∙ first.found l;
+  },
+)
+
+abbrev pub or_512 : Option ℕ → ℕ
+or_512 None = 512
+or_512 (Some r) = r
+
+pub least_first : {f : ℕ → Bool} (o : Option ℕ) → Least f o → First f (or_512 o)
+least_first {f} None none = first_none f none
+least_first (Some r) (h, first) = first

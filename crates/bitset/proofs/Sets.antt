@@ -4,15 +4,16 @@
 -- Assumes nothing.
 use mathlib.Core.Path.{◌≡◌, sym, ap, ◌∙◌}
 use mathlib.Core.Bool.{Bool, false, not, ◌&&◌, ◌||◌, or-false, and-true}
-use mathlib.Core.List.{List}
+use mathlib.Core.List.{List, ◌++◌}
 use Prim.Native.Nat.{ℕ, ◌+◌, ◌-◌, ◌*◌, ◌/◌, ◌%◌, ◌^◌, ◌≤◌, ◌<◌}
 use native.Mathlib.Decide.{ℕ_discrete, dec_lt}
 use native.Mathlib.Omega.{arith}
 use lib.Dec.{eqb, ltb}
-use lib.ListN.{length, get_or, set, replicate, length-replicate, get_or-replicate, get_or-eq_default}
+use lib.ListN.{length, get_or, set, drop, replicate, length-replicate, get_or-replicate, get_or-eq_default}
 use lib.Seq.{get_or-set_same, get_or-set_other}
 use lib.Bits.{bit_and, bit_or}
 use borrow.Author.Tests.{eq-eqb, ne_eqb, lt-ltb, le-ltb}
+use Rattle.std.proofs.lemmas.List.{get_or_append_left, get_or-append_right, get_or-drop}
 use Rattle.bitset.specs.Bits.{bit, member, has_edge, both, rows_without, count_below}
 use Rattle.bitset.proofs.Counts.{count_add, count_ext}
 use Rattle.bitset.proofs.Words.{bit-and, bit-or, bit_not, bit_shl, bit_ones, bit_of_zero}
@@ -48,14 +49,11 @@ has_edge_at adj i j =
     let e : 512 * i + j ≡ 64 * (8 * i + j / 64) + j % 64 = omega arith in
     rw e (member_at adj (8 * i + j / 64) (j % 64) (omega arith))
 
-pub both_at : (adj : List ℕ) (i : ℕ) (s : List ℕ) (w k : ℕ) → k < 64 → both adj i s (64 * w + k) ≡ (bit (get_or adj (8 * i + w) 0) k && bit (get_or s w 0) k)
-both_at adj i s w k l =
-    let e : 512 * i + (64 * w + k) ≡ 64 * (8 * i + w) + k = omega arith in
-    rw (e, member_at adj (8 * i + w) k l, member_at s w k l)
-
--- the same, of the two words' `&`
+-- those in a row and in a set, of the two words' `&`
 pub both_word : (adj : List ℕ) (i : ℕ) (s : List ℕ) (w k : ℕ) → k < 64 → both adj i s (64 * w + k) ≡ bit (bit_and (get_or adj (8 * i + w) 0) (get_or s w 0)) k
-both_word adj i s w k l = both_at adj i s w k l ∙ sym (bit-and _ _ k)
+both_word adj i s w k l =
+    let e : 512 * i + (64 * w + k) ≡ 64 * (8 * i + w) + k = omega arith in
+    rw (e, member_at adj (8 * i + w) k l, member_at s w k l) (sym (bit-and (get_or adj (8 * i + w) 0) (get_or s w 0) k))
 
 -- those in a row of either matrix, in s and not in t
 pub rows_at : (a b : List ℕ) (i : ℕ) (s t : List ℕ) (w k : ℕ) → k < 64
@@ -64,12 +62,20 @@ rows_at a b i s t w k l =
     let e : 512 * i + (64 * w + k) ≡ 64 * (8 * i + w) + k = omega arith in
     rw (e, member_at a (8 * i + w) k l, member_at b (8 * i + w) k l, member_at s w k l, member_at t w k l)
 
--- one word more of a count of those
-pub both_next : (adj : List ℕ) (i : ℕ) (s : List ℕ) (w : ℕ)
-    → count_below (64 * (w + 1)) (both adj i s) ≡ count_below (64 * w) (both adj i s) + count_below 64 (λ k. bit (get_or adj (8 * i + w) 0) k && bit (get_or s w 0) k)
-both_next adj i s w =
+-- one word more of a count of members
+pub count_word : (s : List ℕ) (w : ℕ) → count_below (64 * (w + 1)) (member s) ≡ count_below (64 * w) (member s) + count_below 64 (bit (get_or s w 0))
+count_word s w =
     let next : 64 * (w + 1) ≡ 64 * w + 64 = omega arith in
-    rw (next, count_add (64 * w) 64 (both adj i s)) (ap (λ (n : ℕ). count_below (64 * w) (both adj i s) + n) (count_ext 64 (both_at adj i s w)))
+    rw (next, count_add (64 * w) 64 (member s)) (ap (λ (n : ℕ). count_below (64 * w) (member s) + n) (count_ext 64 (member_at s w)))
+
+-- ---- the eight words of r are those of the test f
+
+pub member_words : (f : ℕ → Bool) (r : List ℕ) → ((w k : ℕ) → w < 8 → k < 64 → bit (get_or r w 0) k ≡ f (64 * w + k)) → (k : ℕ) → k < 512 → member r k ≡ f k
+member_words f r word k h =
+    let e : 64 * (k / 64) + k % 64 ≡ k = omega arith in
+    let m : member r (64 * (k / 64) + k % 64) ≡ f (64 * (k / 64) + k % 64) =
+    member_at r (k / 64) (k % 64) (omega arith) ∙ word (k / 64) (k % 64) (omega arith) (omega arith)
+    in rw e at m
 
 -- ---- a set with no member: past its last word, and where each word is 0
 
@@ -104,16 +110,35 @@ member_fill s w m n l h e p k = go (ℕ_discrete (k / 64) w)
     go (yes q) = rw (member_new s w (2 ^ m - 1) k l q, bit_ones m (k % 64)) (same_ltb (k % 64) m k n (λ i. omega arith) (λ i. omega arith))
     go (no d) = rw (member_kept s w (2 ^ m - 1) k d, p k) (same_ltb k (64 * w) k n (λ i. omega arith) (λ i. omega arith))
 
--- v is the word w of the test f, after the words before it
-pub member_next : (f : ℕ → Bool) (s : List ℕ) (w v : ℕ) → w < length s → ((i : ℕ) → i < 64 → bit v i ≡ f (64 * w + i))
-    → ((k : ℕ) → k < 64 * w → member s k ≡ f k) → (k : ℕ) → k < 64 * (w + 1) → member (set s w v) k ≡ f k
-member_next f s w v l word before k h = go (ℕ_discrete (k / 64) w)
+-- words of ones are stored over the first n of m words of 0: the numbers below those words are members
+pub member_ones : (n m k : ℕ) → member (replicate n (2 ^ 64 - 1) ++ drop n (replicate {A = ℕ} m 0)) k ≡ ltb k (64 * n)
+unfolding member
+member_ones n m k = go (dec_lt (k / 64) n)
   where
-    go : Dec (k / 64 ≡ w) → member (set s w v) k ≡ f k
-    go (yes q) =
-        let e : 64 * w + k % 64 ≡ k = omega arith in
-        member_new s w v k l q ∙ rw e at (word (k % 64) (omega arith))
-    go (no n) = member_kept s w v k n ∙ before k (omega arith)
+    words : List ℕ
+    words = replicate n (2 ^ 64 - 1) ++ drop n (replicate {A = ℕ} m 0)
+
+    zeros : (j : ℕ) → get_or (replicate {A = ℕ} m 0) j 0 ≡ 0
+    zeros j = here (dec_lt j m)
+      where
+        here : Dec (j < m) → get_or (replicate {A = ℕ} m 0) j 0 ≡ 0
+        here (yes l) = get_or-replicate {A = ℕ} m j 0 0 l
+        here (no g) = get_or-eq_default {A = ℕ} (replicate {A = ℕ} m 0) 0 (omega (arith, length-replicate {A = ℕ} m 0))
+
+    go : Dec (k / 64 < n) → bit (get_or words (k / 64) 0) (k % 64) ≡ ltb k (64 * n)
+    go (yes l) =
+        let e : get_or words (k / 64) 0 ≡ 2 ^ 64 - 1 =
+        get_or_append_left (replicate n (2 ^ 64 - 1)) (drop n (replicate {A = ℕ} m 0)) 0 (k / 64) (omega (arith, length-replicate {A = ℕ} n (2 ^ 64 - 1)))
+        ∙ get_or-replicate {A = ℕ} n (k / 64) (2 ^ 64 - 1) 0 l
+        in
+        rw (e, bit_ones 64 (k % 64)) (same_ltb (k % 64) 64 k (64 * n) (λ i. omega arith) (λ i. omega arith))
+    go (no g) =
+        let e : get_or words (k / 64) 0 ≡ 0 =
+        get_or-append_right (replicate n (2 ^ 64 - 1)) (drop n (replicate {A = ℕ} m 0)) n (k / 64) 0 (length-replicate {A = ℕ} n (2 ^ 64 - 1)) (omega arith)
+        ∙ get_or-drop n (replicate {A = ℕ} m 0) (k / 64 - n) 0
+        ∙ zeros (n + (k / 64 - n))
+        in
+        rw (e, bit_of_zero (k % 64)) (sym (le-ltb k (64 * n) (omega arith)))
 
 -- one bit of a word is stored: j is the number at place p of the word w
 module _ (s : List ℕ) (w p j : ℕ) (l : w < length s) (h : p < 64) (e : 64 * w + p ≡ j) where

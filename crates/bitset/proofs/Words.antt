@@ -79,12 +79,6 @@ bit_not (suc w) a (suc j) h l =
     let e : ((2 ^ suc w - 1) - a) / 2 ≡ (2 ^ w - 1) - a / 2 = omega arith in
     rw (bit_suc ((2 ^ suc w - 1) - a) j, bit_suc a j, e) (bit_not w (a / 2) j (omega arith) (omega arith))
 
--- `(a | b) & s & !t`, at w bits
-pub bit_without : (w a b s t j : ℕ) → t < 2 ^ w → j < w
-    → bit (bit_and (bit_and (bit_or a b) s) ((2 ^ w - 1) - t)) j ≡ ((bit a j || bit b j) && bit s j && not (bit t j))
-bit_without w a b s t j h l =
-    rw (bit-and (bit_and (bit_or a b) s) ((2 ^ w - 1) - t) j, bit-and (bit_or a b) s j, bit-or a b j, bit_not w t j h l)
-
 pub bit_pow : (k j : ℕ) → bit (2 ^ k) j ≡ eqb j k
 bit_pow zero zero = bit_zero 1
 bit_pow zero (suc j) = bit_suc 1 j ∙ bit_of_zero j ∙ sym (eqb-suc-zero j)

@@ -2,7 +2,7 @@
 -- matrix of bits, and how many numbers below a bound pass a test. Bits are read by division and remainder, so that
 -- arithmetic settles most of what is asked of them.
 -- Assumes nothing.
-use Rattle.std.specs.Prelude.{ℕ, zero, suc, ◌+◌, ◌*◌, ◌/◌, ◌%◌, ◌^◌, ◌≤◌, ◌<◌, ◌≡◌, Bool, true, false, not, ◌&&◌, ◌||◌, List, eqb, get_or, replicate}
+use Rattle.std.specs.Prelude.{ℕ, zero, suc, ◌+◌, ◌*◌, ◌/◌, ◌%◌, ◌^◌, ◌≤◌, ◌<◌, ◌≡◌, Bool, true, false, not, ◌&&◌, ◌||◌, List, eqb, get_or, replicate, Option, MatchOption}
 use mir.Val.{bool_byte}
 
 -- whether bit j of the word x is set; bit 0 is the lowest
@@ -45,6 +45,20 @@ pub record First (f : ℕ → Bool) (r : ℕ) : Type 0 where
   pub within : r ≤ 512
   pub before : (k : ℕ) → k < r → f k ≡ false
   pub found : r < 512 → f r ≡ true
+
+-- o is the least number below 512 that passes the test f, or None where none below 512 does
+abbrev pub Least : (ℕ → Bool) → Option ℕ → Type 0
+Least f o = MatchOption o ((k : ℕ) → k < 512 → f k ≡ false) (λ r. (r < 512) × First f r)
+
+-- r is the least member of the set s, and t is s without it
+pub record Taken (s : List ℕ) (r : ℕ) (t : List ℕ) : Type 0 where
+  pub small : r < 512
+  pub first : First (member s) r
+  pub out : (k : ℕ) → member t k ≡ (member s k && not (eqb k r))
+
+-- an iterator over the members takes the set s to t: it gives the least member and takes it out, or None where there is none
+abbrev pub TakesLeast : List ℕ → Option ℕ → List ℕ → Type 0
+TakesLeast s o t = MatchOption o ((k : ℕ) → k < 512 → member s k ≡ false) (λ r. Taken s r t)
 
 -- bit r of the word x is set, and no bit below it is
 pub record LowestSet (x r : ℕ) : Type 0 where
