@@ -1,6 +1,7 @@
 -- What an edge counts for between ends with masks. Assumes nothing: these are definitions.
-use Rattle.std.specs.Prelude.{Bool, true, false, not, ◌&&◌, List, ℕ, eqb}
+use Rattle.std.specs.Prelude.{Bool, false, not, ◌&&◌, List, ℕ, eqb}
 use Rattle.bitset.specs.Bits.{has_edge}
+use Rattle.rules.specs.declared.layer.Edge.{Edge}
 use Rattle.rules.specs.Basics.{given}
 use Rattle.rules.specs.Settings.{unset}
 use Rattle.rules.specs.Score.{mask_of}
@@ -13,10 +14,12 @@ abbrev pub two_masks : ℕ → ℕ → Bool
 two_masks a b = not (eqb a unset) && not (eqb b unset) && not (eqb a b)
 
 -- whether an edge counts whose ends have these masks: a conflict edge on one mask, a stitch edge on two
-abbrev pub edge_counts : Bool → ℕ → ℕ → Bool
-edge_counts true a b = one_mask a b
-edge_counts false a b = two_masks a b
+abbrev pub edge_counts : Edge → ℕ → ℕ → Bool
+edge_counts Edge.Conflict a b = one_mask a b
+edge_counts Edge.Stitch a b = two_masks a b
+edge_counts Edge.Tie a b = false
+edge_counts Edge.None a b = false
 
 -- what u and v count for by the words of one kind of edges
-abbrev pub edge_in : Bool → List ℕ → List ℕ → ℕ → ℕ → ℕ
-edge_in one words masks u v = given (edge_counts one (mask_of masks u) (mask_of masks v)) (given (has_edge words u v) 1)
+abbrev pub edge_in : Edge → List ℕ → List ℕ → ℕ → ℕ → ℕ
+edge_in edge words masks u v = given (edge_counts edge (mask_of masks u) (mask_of masks v)) (given (has_edge words u v) 1)

@@ -6,6 +6,7 @@ use mathlib.Core.Path.{◌≡◌, refl}
 use Prim.Native.Nat.{ℕ, ◌≤◌}
 use native.Mathlib.Nat.{mul-le-mul}
 use native.Mathlib.Omega.{arith}
+use mir.Val.{bool_byte}
 use Rattle.rules.specs.Basics.{given}
 use Rattle.rules.specs.Edges.{Graph}
 use Rattle.rules.specs.Score.{together, apart, conflicts_of, stitches_of, cost_of}
@@ -18,6 +19,11 @@ given_le false h = omega arith
 pub given_nothing : (b : Bool) → given b 0 ≡ 0
 given_nothing true = refl
 given_nothing false = refl
+
+-- a test as the number that it is turned into
+pub given_byte : (b : Bool) → given b 1 ≡ bool_byte b
+given_byte true = refl
+given_byte false = refl
 
 -- counts in a graph with at most one edge of a kind between two vertices
 module _ (g : Graph) (masks : List ℕ) (n : ℕ) (few : n ≤ 512) where
