@@ -1,28 +1,21 @@
--- The digits that a text starts with, place by place, and the value of the first digits. Assumes nothing.
+-- The digits that a text starts with, the value of the first digits, and which digits are a numeral. Assumes nothing.
 use mathlib.Core.Bool.{Bool, true, false, not}
 use mathlib.Core.List.{List, [], ◌∷◌}
-use mathlib.Core.Path.{◌≡◌, refl, sym, ◌∙◌}
+use mathlib.Core.Path.{◌≡◌, refl, sym, ap, ◌∙◌}
 use Prim.Native.Nat.{ℕ, zero, suc, ◌+◌, ◌-◌, ◌*◌, ◌≤◌, ◌<◌, min}
 use native.Mathlib.Numerals.{add-one}
 use native.Mathlib.Omega.{arith}
 use lib.Dec.{eqb}
-use lib.ListN.{length, get_or, take, drop}
-use lib.Seq.{drop-cons, take-suc, length-take-le, get_or-take}
+use lib.ListN.{length, get_or, take}
+use Rattle.std.proofs.Common.{Some, None, ◌⊎◌, inl, inr}
+use Rattle.std.proofs.lemmas.Bool.{cases_lt}
+use Rattle.std.specs.List.{prefix_len}
+use lib.Seq.{take-suc, length-take-le}
 use borrow.Author.Tests.{eq-eqb, ne_eqb}
 use Rattle.rules.specs.Lines.{digit0, is_digit, all_digits, is_numeral, value}
-use Rattle.numerals.specs.declared.Numeral.{Numeral}
 use Rattle.numerals.specs.Numerals.{cap, digits_in, digits_of, numeral_of}
 use Rattle.rules.proofs.Tests.{both}
 use Rattle.numerals.proofs.Decimal.{value_snoc}
-
--- a digit, and something else, at a place
-pub digit_here : (s : List ℕ) (n : ℕ) → n < length s → is_digit (get_or s n 0) ≡ true → digits_in (drop n s) ≡ suc (digits_in (drop (n + 1) s))
-unfolding digits_in
-digit_here s n h d = rw (add-one, drop-cons s n 0 h, d, digits_in)
-
-pub other_here : (s : List ℕ) (n : ℕ) → n < length s → is_digit (get_or s n 0) ≡ false → digits_in (drop n s) ≡ 0
-unfolding digits_in
-other_here s n h d = rw (drop-cons s n 0 h, d, digits_in)
 
 pub all_digits_lem : (s : List ℕ) → all_digits (digits_of s) ≡ true
 unfolding digits_in all_digits
@@ -86,27 +79,47 @@ numeral_digits (b ∷ c ∷ ds) h = (both (not (eqb b digit0)) (all_digits (b �
 
 -- ---- What is read, by the tests of the reader
 
+-- ---- What is read, by the tests of the reader
+
+-- the digits that a text starts with are those that pass the test
+pub digits_in_prefix : (s : List ℕ) → digits_in s ≡ prefix_len is_digit s
+unfolding digits_in
+digits_in_prefix [] = refl
+digits_in_prefix (b ∷ s) = go (is_digit b) refl (digits_in_prefix s)
+  where
+    go : (t : Bool) → is_digit b ≡ t → digits_in s ≡ prefix_len is_digit s → digits_in (b ∷ s) ≡ prefix_len is_digit (b ∷ s)
+    go true e ih = rw (e, digits_in) (omega (arith, ih))
+    go false e ih = rw (e, digits_in)
+
+-- ---- What is read, by the tests of the reader
+
 module _ (s : List ℕ) (n : ℕ) (count : n ≡ digits_in s) where
-  read_length : length (digits_of s) ≡ n
-  read_length = length-take-le (digits_in s) s (digits_within s) ∙ sym count
+  pub read_length : length (take n s) ≡ n
+  read_length = length-take-le n s (omega (arith, digits_within s))
 
-  read_first : 0 < n → get_or (digits_of s) 0 0 ≡ get_or s 0 0
-  read_first h = get_or-take (digits_in s) s 0 0 (omega arith)
+  pub read_digits : all_digits (take n s) ≡ true
+  read_digits = rw count (all_digits_lem s)
 
-  pub read_none : n ≡ 0 → Numeral.Bad ≡ numeral_of s
+  pub read_none : length (take n s) < 1 → None ≡ numeral_of s
   unfolding numeral_of
-  read_none h = rw (none_bad (digits_of s) (read_length ∙ h))
+  read_none h = rw (none_bad (digits_of s) (omega (arith, ap (λ (m : ℕ). length (take m s)) count)))
 
-  pub read_zero_first : 1 < n → get_or s 0 0 ≡ digit0 → Numeral.Bad ≡ numeral_of s
+  pub read_zero_first : 2 ≤ length (take n s) → get_or (take n s) 0 0 ≡ digit0 → None ≡ numeral_of s
   unfolding numeral_of
-  read_zero_first h e = rw (zero_first_bad (digits_of s) (omega (arith, read_length)) (read_first (omega arith) ∙ e))
+  read_zero_first h e =
+      let same : take n s ≡ digits_of s = ap (λ (m : ℕ). take m s) count in
+      rw (zero_first_bad (digits_of s) (omega (arith, ap length same)) (ap (λ (l : List ℕ). get_or l 0 0) (sym same) ∙ e))
 
-  read_good : is_numeral (digits_of s) ≡ true → (v : ℕ) → v ≡ min (value (take n s)) cap → Numeral.Number v n ≡ numeral_of s
+  pub read_good : is_numeral (take n s) ≡ true → Some (record { value = min (value (take n s)) cap; digits = n }) ≡ numeral_of s
   unfolding numeral_of
-  read_good good v e = rw good (rw (e, count))
+  read_good good = rw count (rw (← count, good))
 
-  pub read_one : (n ≡ 0 → ⊥) → n ≤ 1 → (v : ℕ) → v ≡ min (value (take n s)) cap → Numeral.Number v n ≡ numeral_of s
-  read_one some h = read_good (one_good (digits_of s) (all_digits_lem s) (omega (arith, read_length)))
+  pub read_one : 1 ≤ length (take n s) → length (take n s) < 2 → Some (record { value = min (value (take n s)) cap; digits = n }) ≡ numeral_of s
+  read_one some h = read_good (one_good (take n s) read_digits (omega arith))
 
-  pub read_more : 1 < n → (get_or s 0 0 ≡ digit0 → ⊥) → (v : ℕ) → v ≡ min (value (take n s)) cap → Numeral.Number v n ≡ numeral_of s
-  read_more h other = read_good (more_good (digits_of s) (all_digits_lem s) (omega (arith, read_length)) (λ e. other (sym (read_first (omega arith)) ∙ e)))
+  pub read_more : 1 ≤ length (take n s) → (get_or (take n s) 0 0 ≡ digit0 → ⊥) → Some (record { value = min (value (take n s)) cap; digits = n }) ≡ numeral_of s
+  read_more some other = read_good (go (cases_lt (length (take n s)) 2))
+    where
+      go : (length (take n s) < 2) ⊎ (2 ≤ length (take n s)) → is_numeral (take n s) ≡ true
+      go (inl h) = one_good (take n s) read_digits (omega arith)
+      go (inr h) = more_good (take n s) read_digits (omega arith) other

@@ -1,5 +1,5 @@
 -- What the reader of numerals hands back, by the definitions of the rules. Numbers are read up to the cap.
-use Rattle.std.specs.Prelude.{Bool, true, false, List, [], ◌∷◌, ℕ, suc, min, take}
+use Rattle.std.specs.Prelude.{true, false, List, [], ◌∷◌, ℕ, suc, min, take, Option, Some, None, if◌then◌else◌}
 use Rattle.rules.specs.Lines.{is_digit, is_numeral, value}
 use Rattle.numerals.specs.declared.Numeral.{Numeral}
 
@@ -16,9 +16,6 @@ digits_in (b ∷ bs) = elim (is_digit b) [ true ↦ suc (digits_in bs) | false �
 abbrev pub digits_of : List ℕ → List ℕ
 digits_of text = take (digits_in text) text
 
-abbrev pub pick_numeral : Bool → Numeral → Numeral
-pick_numeral true n = n
-pick_numeral false n = Numeral.Bad
-
-unfoldable pub numeral_of : List ℕ → Numeral
-numeral_of text = pick_numeral (is_numeral (digits_of text)) (Numeral.Number (min (value (digits_of text)) cap) (digits_in text))
+-- the numeral, if the digits are one
+unfoldable pub numeral_of : List ℕ → Option Numeral
+numeral_of text = if is_numeral (digits_of text) then Some (record { value = min (value (digits_of text)) cap; digits = digits_in text }) else None

@@ -1,24 +1,16 @@
-use borrow.Author.Tests.{not-true, not-false}
-use native.Mathlib.Omega.{arith}
-use mathlib.Core.Path.{sym, ap, ◌∙◌}
-use lib.ListN.{length, drop, drop_of_length-le}
-use Rattle.numerals.proofs.Digits.{digit_here, other_here, digits_within}
-use mathlib.Core.Bool.{not}
+use Rattle.std.proofs.Common.{rules, tests, sym, ◌∙◌}
+use Rattle.std.proofs.lemmas.Iterator.{YieldsList-from_slice}
+use Rattle.std.proofs.lemmas.Iterator.Consumers.{count_from_yields_List}
+use Rattle.std.proofs.lemmas.Iterator.Search.{YieldsList-from_take_while}
+use Rattle.std.proofs.lemmas.List.Folds.{length-prefix_len}
+use Rattle.rules.specs.Lines.{is_digit}
+use Rattle.numerals.proofs.Digits.{digits_in_prefix}
 use Rattle.numerals.proofs.leading_digits.Goals as goal
-
-pub returns-then-not-is_digit : goal.returns-then-not-is_digit
-returns-then-not-is_digit c =
-    let text = c.args.text.now in
-    let other = sym c.is_digit.ensures ∙ not-true _ (ap not c.if-not-is_digit.true) in
-    omega (arith, other_here text c.loop-n.n c.loop-n-test.true other)
-
-pub loop-n-preserved : goal.loop-n-preserved
-loop-n-preserved c =
-    let text = c.args.text.now in
-    let digit = sym c.is_digit.ensures ∙ not-false _ (ap not c.if-not-is_digit.false) in
-    omega (arith, digit_here text c.loop-n.n c.loop-n-test.true digit)
 
 pub returns : goal.returns
 returns c =
     let text = c.args.text.now in
-    omega (arith, ap length (drop_of_length-le text c.loop-n-test.false), digits_within (drop c.loop-n.n text))
+    count_from_yields_List c.take_while.result _ c.count.ensures.ran
+    (YieldsList-from_take_while _ is_digit (YieldsList-from_slice text (cc)) c.take_while.ensures.closure c.take_while.ensures.done (λ x b q k. search (rules, tests)))
+    ∙ length-prefix_len is_digit text
+    ∙ sym (digits_in_prefix text)

@@ -1,41 +1,30 @@
 -- `read_numeral`: the tests of the digits that the text starts with. Assumes nothing.
-use mathlib.Core.Path.{sym, subst, ◌≡◌}
-use mathlib.Core.Bool.{true}
-use mathlib.Core.List.{List}
-use native.Mathlib.Omega.{arith}
-use Prim.Native.Nat.{ℕ}
-use lib.ListN.{take}
-use lib.Seq.{length-take-le}
-use Rattle.rules.specs.Lines.{all_digits}
-use Rattle.numerals.proofs.Digits.{all_digits_lem, digits_within, read_none, read_zero_first, read_one, read_more}
+use Rattle.std.proofs.Common.{Option, Some, ap, arith, rules, sym, ◌∙◌, ◌≤◌, length, take, ℕ}
+use Rattle.numerals.specs.declared.Numeral.{Numeral}
+use Rattle.numerals.proofs.Digits.{read_length, read_digits, read_none, read_zero_first, read_one, read_more}
 use Rattle.numerals.proofs.read_numeral.Goals as goal
-use Rattle.numerals.proofs.read_numeral.Goals.{After-leading_digits-n, then-n-gt1+else-text-eq48, else-n-gt1}
+use Rattle.numerals.proofs.read_numeral.Goals.{in_default-via-then-number-lt2, in_default-via-else-number-lt2+in_default-1}
 
-abbrev text_of : After-leading_digits-n → List ℕ
-text_of c = c.args.text.now
+abbrev some_of : ℕ → ℕ → Option Numeral
+some_of v n = Some (record { value = v; digits = n })
 
-pub returns-then-n-eq0 : goal.returns-then-n-eq0
-returns-then-n-eq0 c = read_none _ _ c.leading_digits-n.ensures c.if-n-eq0.true
-
-pub bounds-text-0 : goal.bounds-text-0
-bounds-text-0 c = omega (arith, digits_within (text_of (goal.at.bounds-text-0 c).After-leading_digits-n))
-
-pub returns-then-text-eq48 : goal.returns-then-text-eq48
-returns-then-text-eq48 c = read_zero_first _ _ c.leading_digits-n.ensures c.if-n-gt1.true c.if-text-eq48.true
-
-pub slice_bounds-value_of-end : goal.slice_bounds-value_of-end
-slice_bounds-value_of-end c =
-    let text = text_of (goal.at.slice_bounds-value_of-end c).After-leading_digits-n in
-    sym (length-take-le c.leading_digits-n.result text (omega (arith, digits_within text)))
+pub slice_bounds-number-end : goal.slice_bounds-number-end
+slice_bounds-number-end c = sym (read_length _ _ c.leading_digits-digits.ensures)
 
 pub value_of-requires : goal.value_of-requires
-value_of-requires c =
-    let text = text_of (goal.at.value_of-requires c).After-leading_digits-n in
-    subst (λ (n : ℕ). all_digits (take n text) ≡ true) (sym c.leading_digits-n.ensures) (all_digits_lem text)
+value_of-requires c = read_digits _ _ c.leading_digits-digits.ensures
 
-pub returns : goal.returns
-returns c =
-    elim c.if-n-gt1.branch [
-      | then-n-gt1+else-text-eq48 w ↦ read_more _ _ c.leading_digits-n.ensures w.if-n-gt1.true w.if-text-eq48.false _ c.value_of.ensures
-      | else-n-gt1 w ↦ read_one _ _ c.leading_digits-n.ensures c.if-n-eq0.false w.if-n-gt1.false _ c.value_of.ensures
+pub returns-in_default : goal.returns-in_default
+returns-in_default c =
+    let some : 1 ≤ length (take c.leading_digits-digits.result c.args.text.now) = search rules in
+    ap (λ (v : ℕ). some_of v c.leading_digits-digits.result) c.value_of.ensures
+    ∙ elim c.in_default.branch [
+      | in_default-via-then-number-lt2 w ↦ read_one _ _ c.leading_digits-digits.ensures some (search rules)
+      | in_default-via-else-number-lt2+in_default-1 w ↦ read_more _ _ c.leading_digits-digits.ensures some (λ e. omega arith)
     ]
+
+pub returns-in-empty : goal.returns-in-empty
+returns-in-empty c = read_none _ _ c.leading_digits-digits.ensures c.in-empty.len_below
+
+pub returns-in-48 : goal.returns-in-48
+returns-in-48 c = read_zero_first _ _ c.leading_digits-digits.ensures c.in-48.len_at_least (omega arith)
