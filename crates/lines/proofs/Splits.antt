@@ -1,115 +1,76 @@
--- A text's first line, and what follows a key, place by place. Assumes nothing.
-use mathlib.Core.Bool.{Bool, true, false}
-use mathlib.Core.List.{List, [], ◌∷◌, ◌++◌, append-nil}
-use mathlib.Core.Option.{none, some}
-use mathlib.Core.Path.{◌≡◌, refl, sym, ap, ◌∙◌}
-use Prim.Native.Nat.{ℕ, zero, suc, ◌+◌, ◌≤◌, ◌<◌}
+-- A text's first line by the place of its first byte 10, and what follows a key. Assumes nothing.
+use mathlib.Core.Bool.{Bool, true, false, cond, not}
+use mathlib.Core.List.{List, [], ◌∷◌, ◌++◌}
+use mathlib.Core.Option.{Option, none, some}
+use mathlib.Core.Path.{◌≡◌, refl, ap, ◌∙◌}
+use Prim.Native.Nat.{ℕ, suc, ◌+◌, ◌<◌}
 use native.Mathlib.Numerals.{add-one}
 use native.Mathlib.Omega.{arith}
-use lib.Dec.{eqb}
-use lib.ListN.{length, get_or, take, drop, drop_of_length-le}
-use lib.Seq.{drop-cons, take-suc, append_snoc}
-use borrow.Author.Tests.{eq-eqb, ne_eqb}
+use lib.Dec.{eqb, ltb}
+use lib.ListN.{length, take, drop}
+use Rattle.std.proofs.Common.{Some, None, ltb-true, ltb-false, lt-ltb, le-ltb}
+use Rattle.std.specs.List.{position, position_or_len}
 use Rattle.rules.specs.Lines.{newline, FirstLine, ended, unended, longer, first_line, after_key}
-use Rattle.lines.specs.declared.read.LineEnd.{LineEnd}
-use Rattle.lines.specs.ReadLines.{line_split}
+use Rattle.lines.proofs.Written.{key_text, key_after}
 
 -- ---- The first line
 
--- bytes in front of a first line
-abbrev pub ahead : List ℕ → FirstLine → FirstLine
-ahead p (ended body rest) = ended (p ++ body) rest
-ahead p unended = unended
+abbrev pub is_newline : ℕ → Bool
+is_newline b = eqb b newline
 
-ahead_longer : (p : List ℕ) (b : ℕ) (o : FirstLine) → ahead p (longer b o) ≡ ahead (p ++ (b ∷ [])) o
-ahead_longer p b (ended body rest) = ap (λ (l : List ℕ). ended l rest) (sym (append_snoc p b body))
-ahead_longer p b unended = refl
+-- where the first byte 10 is
+abbrev end_of : List ℕ → ℕ
+end_of text = position_or_len is_newline text
 
-pub line_none : (text : List ℕ) → first_line text ≡ ahead [] (first_line text)
-line_none text = go (first_line text)
+abbrev split_at : List ℕ → ℕ → FirstLine
+split_at text n = cond (ltb n (length text)) (ended (take n text) (drop (n + 1) text)) unended
+
+split_here : (b : ℕ) (text : List ℕ) (m : ℕ) → m ≡ 0 → ended [] text ≡ split_at (b ∷ text) m
+split_here b text m e = rw (e, lt-ltb 0 (suc (length text)) (omega arith))
+
+split_longer : (b : ℕ) (text : List ℕ) (n m : ℕ) → m ≡ suc n → longer b (split_at text n) ≡ split_at (b ∷ text) m
+split_longer b text n m e = go (ltb n (length text)) refl
   where
-    go : (o : FirstLine) → o ≡ ahead [] o
-    go (ended body rest) = refl
-    go unended = refl
+    go : (t : Bool) → ltb n (length text) ≡ t → longer b (split_at text n) ≡ split_at (b ∷ text) m
+    go true et = rw (e, et, lt-ltb (suc n) (suc (length text)) (omega (arith, ltb-true n (length text) et))) (simp add-one)
+    go false et = rw (e, et, le-ltb (suc n) (suc (length text)) (omega (arith, ltb-false n (length text) et)))
 
-module _ (text : List ℕ) (n : ℕ) (passed : first_line text ≡ ahead (take n text) (first_line (drop n text))) where
-  pub line_here : n < length text → get_or text n 0 ≡ newline → line_split text (LineEnd.At n) ≡ first_line text
-  unfolding first_line
-  line_here h e = sym (passed ∙ ap (ahead (take n text)) here ∙ whole)
-    where
-      here : first_line (drop n text) ≡ ended [] (drop (n + 1) text)
-      here = rw (add-one, drop-cons text n 0 h, eq-eqb (get_or text n 0) newline e, first_line)
-
-      whole : ahead (take n text) (ended [] (drop (n + 1) text)) ≡ ended (take n text) (drop (n + 1) text)
-      whole = ap (λ (l : List ℕ). ended l (drop (n + 1) text)) (append-nil (take n text))
-
-  pub line_on : n < length text → (get_or text n 0 ≡ newline → ⊥) → first_line text ≡ ahead (take (n + 1) text) (first_line (drop (n + 1) text))
-  unfolding first_line
-  line_on h e = passed ∙ ap (ahead (take n text)) on ∙ ahead_longer (take n text) (get_or text n 0) (first_line (drop (n + 1) text)) ∙ rw (add-one, take-suc text n 0 h)
-    where
-      on : first_line (drop n text) ≡ longer (get_or text n 0) (first_line (drop (n + 1) text))
-      on = rw (add-one, drop-cons text n 0 h, ne_eqb (get_or text n 0) newline e, first_line)
-
-  pub line_missing : length text ≤ n → line_split text LineEnd.Missing ≡ first_line text
-  unfolding first_line
-  line_missing h = sym (passed ∙ rw (drop_of_length-le text h))
-
--- a line that was found has its byte 10 in the text
-inside : (text : List ℕ) (n : ℕ) (rest : List ℕ) → ended (take n text) rest ≡ first_line text → n < length text
+first_at : (text : List ℕ) → first_line text ≡ split_at text (end_of text)
 unfolding first_line
-inside [] n rest e = let z : ◌≡◌ {A = ℕ} 0 1 = cc e in absurd (omega arith)
-inside (b ∷ text) zero rest e = omega arith
-inside (b ∷ text) (suc n) rest e = go (eqb b newline) refl (first_line text) refl (inside text n)
+first_at [] = refl
+first_at (b ∷ text) = go (eqb b newline) refl (first_at text)
   where
-    go : (t : Bool) → eqb b newline ≡ t → (o : FirstLine) → first_line text ≡ o → ((r : List ℕ) → ended (take n text) r ≡ first_line text → n < length text) → suc n < suc (length text)
-    go true et o eo ih = let e' = rw (et, first_line) at e in let z : ◌≡◌ {A = ℕ} 0 1 = cc e' in absurd (omega arith)
-    go false et (ended body r) eo ih =
-        let e' = rw (et, first_line, eo) at e in
-        let same : ended (take n text) r ≡ first_line text = cc in
-        omega (arith, ih r same)
-    go false et unended eo ih = let e' = rw (et, first_line, eo) at e in let z : ◌≡◌ {A = ℕ} 0 1 = cc e' in absurd (omega arith)
+    go : (t : Bool) → eqb b newline ≡ t → first_line text ≡ split_at text (end_of text) → first_line (b ∷ text) ≡ split_at (b ∷ text) (end_of (b ∷ text))
+    go true e ih = rw (e, first_line) (split_here b text (cond (not true) (1 + end_of text) 0) refl)
+    go false e ih = rw (e, first_line) (ap (longer b) ih ∙ split_longer b text (end_of text) (1 + end_of text) (omega arith))
 
-pub line_inside : (text : List ℕ) (n : ℕ) → line_split text (LineEnd.At n) ≡ first_line text → n < length text
-line_inside text n e = inside text n (drop (n + 1) text) e
+module _ (text : List ℕ) where
+  pub line_missing : None ≡ position is_newline text → first_line text ≡ unended
+  line_missing e = first_at text ∙ go (ltb (end_of text) (length text)) refl
+    where
+      go : (t : Bool) → ltb (end_of text) (length text) ≡ t → split_at text (end_of text) ≡ unended
+      go true et = let e' = rw et at e in absurd (cc e')
+      go false et = rw et
+
+  pub line_here : (n : ℕ) → Some n ≡ position is_newline text → (n < length text) × (first_line text ≡ ended (take n text) (drop (n + 1) text))
+  line_here n e = go (ltb (end_of text) (length text)) refl
+    where
+      go : (t : Bool) → ltb (end_of text) (length text) ≡ t → (n < length text) × (first_line text ≡ ended (take n text) (drop (n + 1) text))
+      go true et =
+          let e' = rw et at e in
+          let same : n ≡ end_of text = cc e' in
+          (omega (arith, ltb-true (end_of text) (length text) et), first_at text ∙ rw (et, same))
+      go false et = let e' = rw et at e in absurd (cc e')
 
 -- ---- A key
 
-pub key_short : (key line : List ℕ) → length line < length key → after_key key line ≡ none
-unfolding after_key
-key_short [] line h = absurd (omega arith)
-key_short (k ∷ key) [] h = refl
-key_short (k ∷ key) (b ∷ line) h = go (eqb k b) refl (key_short key line (omega arith))
+-- what does not start with the key lacks it
+pub key_missing : (key line : List ℕ) → ((rest : List ℕ) → line ≡ key ++ rest → ⊥) → after_key key line ≡ none
+key_missing key line other = go (after_key key line) refl
   where
-    go : (t : Bool) → eqb k b ≡ t → after_key key line ≡ none → after_key (k ∷ key) (b ∷ line) ≡ none
-    go true e ih = rw (e, after_key) ih
-    go false e ih = rw (e, after_key)
+    go : (o : Option (List ℕ)) → after_key key line ≡ o → after_key key line ≡ none
+    go none e = e
+    go (some rest) e = absurd (other rest (key_text key line rest e))
 
-module _ (key line : List ℕ) (i : ℕ) (passed : after_key key line ≡ after_key (drop i key) (drop i line)) (long : length key ≤ length line) where
-  pub key_on : i < length key → get_or key i 0 ≡ get_or line i 0 → after_key key line ≡ after_key (drop (i + 1) key) (drop (i + 1) line)
-  unfolding after_key
-  key_on h e =
-      let h' : i < length line = omega arith in
-      passed ∙ rw (add-one, drop-cons key i 0 h, drop-cons line i 0 h', eq-eqb (get_or key i 0) (get_or line i 0) e, after_key)
-
-  pub key_differs : i < length key → (get_or key i 0 ≡ get_or line i 0 → ⊥) → after_key key line ≡ none
-  unfolding after_key
-  key_differs h e =
-      let h' : i < length line = omega arith in
-      passed ∙ rw (drop-cons key i 0 h, drop-cons line i 0 h', ne_eqb (get_or key i 0) (get_or line i 0) e, after_key)
-
-  pub key_whole : i ≡ length key → after_key key line ≡ some (drop (length key) line)
-  unfolding after_key
-  key_whole h =
-      let none_left : length key ≤ i = omega arith in
-      passed ∙ rw (drop_of_length-le key none_left, h)
-
--- a line with a key is as long as the key
-pub key_fits : (key line rest : List ℕ) → after_key key line ≡ some rest → length key ≤ length line
-unfolding after_key
-key_fits [] line rest h = omega arith
-key_fits (k ∷ key) [] rest h = let z : ◌≡◌ {A = ℕ} 0 1 = cc h in absurd (omega arith)
-key_fits (k ∷ key) (b ∷ line) rest h = go (eqb k b) refl (key_fits key line rest)
-  where
-    go : (t : Bool) → eqb k b ≡ t → (after_key key line ≡ some rest → length key ≤ length line) → suc (length key) ≤ suc (length line)
-    go true e ih = omega (arith, ih (rw (e, after_key) at h))
-    go false e ih = let h' = rw (e, after_key) at h in let z : ◌≡◌ {A = ℕ} 0 1 = cc h' in absurd (omega arith)
+pub key_there : (key line rest : List ℕ) → line ≡ key ++ rest → after_key key line ≡ some rest
+key_there key line rest e = ap (after_key key) e ∙ key_after key rest

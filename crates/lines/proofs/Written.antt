@@ -77,7 +77,7 @@ one_numbers (n ∷ m ∷ ns) = one_append (decimal n) (comma ∷ comma_list (m �
 
 -- ---- The key
 
-key_text : (key body rest : List ℕ) → after_key key body ≡ some rest → body ≡ key ++ rest
+pub key_text : (key body rest : List ℕ) → after_key key body ≡ some rest → body ≡ key ++ rest
 unfolding after_key
 key_text [] body rest e = cc e
 key_text (k ∷ key) [] rest e = let z : ◌≡◌ {A = ℕ} 0 1 = cc e in absurd (omega arith)
@@ -90,7 +90,7 @@ key_text (k ∷ key) (b ∷ body) rest e = go (eqb k b) refl (key_text key body 
         cc
     go false et ih = let e' = rw (et, after_key) at e in let z : ◌≡◌ {A = ℕ} 0 1 = cc e' in absurd (omega arith)
 
-key_after : (key rest : List ℕ) → after_key key (key ++ rest) ≡ some rest
+pub key_after : (key rest : List ℕ) → after_key key (key ++ rest) ≡ some rest
 unfolding after_key
 key_after [] rest = refl
 key_after (k ∷ key) rest = rw (eq-eqb k k refl, after_key) (key_after key rest)

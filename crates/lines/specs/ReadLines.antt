@@ -1,11 +1,10 @@
 -- What the reader of lines hands back, by the definitions of the rules. Numbers are read up to the cap.
-use Rattle.std.specs.Prelude.{Bool, true, false, List, [], ◌∷◌, ◌++◌, map, ℕ, ◌+◌, ◌-◌, min, eqb, length, take, drop, replicate}
-use Rattle.std.proofs.Math.Option.{Option, none, some}
-use Rattle.rules.specs.Lines.{comma, FirstLine, ended, unended, NumbersRead}
+use Rattle.std.specs.Prelude.{true, false, List, [], ◌∷◌, map, ℕ, ◌+◌, ◌-◌, min, eqb, length, Option, Some, None}
+use Rattle.std.proofs.Math.Option.{none, some}
+use Rattle.std.proofs.Math.Option as rules
+use Rattle.rules.specs.Lines.{comma, NumbersRead}
 use Rattle.numerals.specs.declared.Numeral.{Numeral}
 use Rattle.numerals.specs.Numerals.{cap, numeral_of}
-use Rattle.lines.specs.declared.read.LineEnd.{LineEnd}
-use Rattle.lines.specs.declared.read.Numbers.{Numbers}
 use Rattle.lines.specs.declared.read.Line.{Line}
 
 -- ---- Numbers
@@ -14,40 +13,20 @@ abbrev pub capped : List ℕ → List ℕ
 capped ns = map (λ n. min n cap) ns
 
 -- a comma and a numeral, which is one byte longer with its comma
-abbrev pub one_longer : Numeral → Numeral
-one_longer (Numeral.Number value digits) = Numeral.Number value (digits + 1)
-one_longer Numeral.Bad = Numeral.Bad
+abbrev pub one_longer : Option Numeral → Option Numeral
+one_longer None = None
+one_longer (Some r) = Some (record { value = r.value; digits = r.digits + 1 })
 
-unfoldable pub next_numeral : List ℕ → Numeral
-next_numeral [] = Numeral.Bad
-next_numeral (b ∷ text) = elim (eqb b comma) [ true ↦ one_longer (numeral_of text) | false ↦ Numeral.Bad ]
+unfoldable pub next_numeral : List ℕ → Option Numeral
+next_numeral [] = None
+next_numeral (b ∷ text) = elim (eqb b comma) [ true ↦ one_longer (numeral_of text) | false ↦ None ]
+
+abbrev pub numbers_read : rules.Option (List ℕ) → Option (List ℕ)
+numbers_read none = None
+numbers_read (some ns) = Some (capped ns)
 
 -- ---- Lines
 
--- the line and the text after it
-abbrev pub line_split : List ℕ → LineEnd → FirstLine
-line_split text (LineEnd.At n) = ended (take n text) (drop (n + 1) text)
-line_split text LineEnd.Missing = unended
-
--- what follows a key, if it is there
-abbrev pub keyed : Bool → List ℕ → Option (List ℕ)
-keyed true rest = some rest
-keyed false rest = none
-
--- numbers in an array of five, with zeros after them
-abbrev pub in_five : List ℕ → List ℕ
-in_five ns = ns ++ replicate (5 - length ns) 0
-
-abbrev pub no_numbers : Numbers
-no_numbers = record { good = false; values = replicate 5 0 }
-
-abbrev pub numbers_read : Option (List ℕ) → Numbers
-numbers_read none = no_numbers
-numbers_read (some ns) = record { good = true; values = in_five (capped ns) }
-
-abbrev pub no_line : Line
-no_line = record { good = false; bytes = 0; values = replicate 5 0 }
-
-abbrev pub line_read : List ℕ → Option NumbersRead → Line
-line_read text none = no_line
-line_read text (some l) = record { good = true; bytes = length text - length l.rest; values = in_five (capped l.numbers) }
+abbrev pub line_read : {N : ℕ} → List ℕ → rules.Option NumbersRead → Option (Line N)
+line_read text none = None
+line_read text (some l) = Some (record { bytes = length text - length l.rest; values = capped l.numbers })

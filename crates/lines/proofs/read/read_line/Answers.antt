@@ -1,41 +1,45 @@
--- `read_line`: the end of the line, then its numbers, each only where the one before is there. Assumes nothing.
-use borrow.Author.Tests.{not-true, not-false}
-use native.Mathlib.Omega.{arith}
-use mathlib.Core.List.{List}
-use mathlib.Core.Path.{◌≡◌, sym, ap, ◌∙◌}
-use Prim.Native.Nat.{ℕ}
-use lib.Seq.{length-take-le}
-use Rattle.rules.specs.Lines.{first_line}
-use Rattle.lines.specs.declared.read.LineEnd.{LineEnd}
-use Rattle.lines.specs.ReadLines.{line_split}
-use Rattle.lines.proofs.Splits.{line_inside}
-use Rattle.lines.proofs.LineForm.{line_unended, line_bad, line_good}
+-- `read_line`: the line's end, then its key, then its numbers, each only where the one before is there. Assumes nothing.
+use mathlib.Core.Path.{◌≡◌, sym, ◌∙◌}
+use Prim.Native.Nat.{◌+◌, ◌<◌}
+use lib.ListN.{length, take, drop}
+use Rattle.rules.specs.Lines.{ended, first_line}
+use Rattle.std.proofs.Common.{Some, None, rules, tests}
+use Rattle.std.specs.List.{position}
+use Rattle.std.proofs.lemmas.Bool.Decides.{Decides-eqb}
+use Rattle.std.proofs.lemmas.Iterator.{YieldsList-from_slice}
+use Rattle.std.proofs.lemmas.Iterator.Search.{position_from_yields_List}
+use Rattle.std.proofs.lemmas.Slice.Eq.{strip_prefix_is}
+use Rattle.lines.proofs.Splits.{is_newline, line_here, line_missing, key_there, key_missing}
+use Rattle.lines.proofs.LineForm.{line_unended, line_no_key, line_bad, line_good}
 use Rattle.lines.proofs.read.read_line.Goals as goal
+use Rattle.lines.proofs.read.read_line.Goals.{After-position, In_ok-end}
+use Rattle.lines.proofs.read.read_line.Given.{Over}
 
--- what the text's first line is where its end was found
-split : (text : List ℕ) (end : LineEnd) (n : ℕ) → end ≡ LineEnd.At n → line_split text end ≡ first_line text → line_split text (LineEnd.At n) ≡ first_line text
-split text end n e known = ap (line_split text) (sym e) ∙ known
+-- the first byte 10
+first : (g : Over) (c : After-position g) → c.position.result ≡ position is_newline c.args.text.now
+first g c = position_from_yields_List is_newline _ _ c.position.result c.position.ensures.ran (YieldsList-from_slice c.args.text.now (cc)) (λ x b q k. search (rules, tests))
 
-pub returns-in_default : goal.returns-in_default
-returns-in_default c = c.bad_line.ensures ∙ line_unended _ _ _ (ap (line_split c.args.text.now) (sym c.in_default.is) ∙ c.line_end.ensures)
+-- where it is, and what the line starts with
+ends : (g : Over) (c : In_ok-end g) → (c.in_ok-end.end < length c.args.text.now) × (first_line c.args.text.now ≡ ended (take c.in_ok-end.end c.args.text.now) (drop (c.in_ok-end.end + 1) c.args.text.now))
+ends g c =
+    let found : Some c.in_ok-end.end ≡ position is_newline c.args.text.now = cc (first g (goal.at.In_ok-end g c).After-position) in
+    line_here _ _ found
 
-pub slice_bounds-read_body-end : goal.slice_bounds-read_body-end
-slice_bounds-read_body-end c =
-    let text = c.args.text.now in
-    let known = split _ _ _ c.in-At.is c.line_end.ensures in
-    sym (length-take-le c.in-At.n text (omega (arith, line_inside text c.in-At.n known)))
+pub returns-in_err-end : goal.returns-in_err-end
+returns-in_err-end g c = c.from_residual.ensures ∙ line_unended _ _ g.row.N (line_missing _ (sym c.in_err-end.was ∙ first g (goal.at.returns-in_err-end g c).After-position))
 
-pub returns-then-not-numbers : goal.returns-then-not-numbers
-returns-then-not-numbers c =
-    let known = split _ _ _ c.in-At.is c.line_end.ensures in
-    c.bad_line-then-not-numbers.ensures ∙ line_bad _ _ _ c.in-At.n known _ c.read_body-numbers.ensures (not-true _ c.if-not-numbers.true)
+pub returns-in_err-strip_prefix : goal.returns-in_err-strip_prefix
+returns-in_err-strip_prefix g c =
+    let lacks = strip_prefix_is Decides-eqb (take c.in_ok-end.end c.args.text.now) c.args.key.now None c.in_err-strip_prefix.ensures.cases in
+    c.from_residual-in_err-strip_prefix.ensures ∙ line_no_key _ _ g.row.N _ (ends g (goal.at.returns-in_err-strip_prefix g c).In_ok-end).1 (key_missing _ _ lacks)
 
-pub overflow_add-result : goal.overflow_add-result
-overflow_add-result c =
-    let known = split _ _ _ c.in-At.is c.line_end.ensures in
-    omega (arith, line_inside c.args.text.now c.in-At.n known)
+pub returns-in_err-values : goal.returns-in_err-values
+returns-in_err-values g c =
+    let starts = strip_prefix_is Decides-eqb (take c.in_ok-end.end c.args.text.now) c.args.key.now (Some c.in_ok-strip_prefix.field-0) c.in_ok-strip_prefix.ensures.cases in
+    c.from_residual-in_err-values.ensures ∙ line_bad _ _ g.row.N _ (ends g (goal.at.returns-in_err-values g c).In_ok-end).1 _ (key_there _ _ _ starts) c.in_err-values.ensures
 
 pub returns : goal.returns
-returns c =
-    let known = split _ _ _ c.in-At.is c.line_end.ensures in
-    line_good _ _ _ c.in-At.n known _ c.read_body-numbers.ensures (not-false _ c.if-not-numbers.false)
+returns g c =
+    let starts = strip_prefix_is Decides-eqb (take c.in_ok-end.end c.args.text.now) c.args.key.now (Some c.in_ok-strip_prefix.field-0) c.in_ok-strip_prefix.ensures.cases in
+    let end = ends g (goal.at.returns g c).In_ok-end in
+    line_good _ _ g.row.N _ end.1 _ (key_there _ _ _ starts) end.0 _ c.in_ok-values.ensures

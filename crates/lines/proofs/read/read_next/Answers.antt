@@ -1,39 +1,31 @@
--- `read_next`: the first byte decides, and the numeral is one byte longer with its comma. Assumes nothing.
+-- `read_next`: the comma, then the numeral, which is one byte longer with it. Assumes nothing.
 use native.Mathlib.Omega.{arith}
-use mathlib.Core.List.{List}
-use mathlib.Core.Path.{◌≡◌, sym, ap, ◌∙◌}
-use Prim.Native.Nat.{ℕ}
-use lib.ListN.{drop, length-drop}
-use Rattle.numerals.specs.declared.Numeral.{Numeral}
-use Rattle.numerals.specs.Numerals.{numeral_of}
-use Rattle.lines.specs.ReadLines.{one_longer, next_numeral}
-use Rattle.lines.proofs.NumberParts.{part_from, numeral_inside, next_empty, next_other, next_comma}
+use mathlib.Core.List.{[], ◌∷◌}
+use mathlib.Core.Path.{◌≡◌, ap, ◌∙◌}
+use lib.ListN.{length}
+use Rattle.std.proofs.Common.{Some, None}
+use Rattle.std.proofs.lemmas.Bool.Decides.{Decides-eqb}
+use Rattle.std.proofs.lemmas.Slice.Eq.{strip_prefix_is}
+use Rattle.rules.specs.Lines.{comma}
+use Rattle.lines.specs.ReadLines.{one_longer}
+use Rattle.lines.proofs.NumberParts.{numeral_inside, next_other, next_comma}
 use Rattle.lines.proofs.read.read_next.Goals as goal
-use Rattle.lines.proofs.read.read_next.Goals.{After-read_numeral}
+use Rattle.lines.proofs.read.read_next.Goals.{In_ok-strip_prefix}
 
--- ---- What is known where a numeral was read
-abbrev text_of : After-read_numeral → List ℕ
-text_of c = c.args.text.now
+-- what follows the comma
+after-comma : (c : In_ok-strip_prefix) → c.args.text.now ≡ comma ∷ c.in_ok-strip_prefix.field-0.now
+after-comma c = strip_prefix_is Decides-eqb c.args.text.now (comma ∷ []) (Some c.in_ok-strip_prefix.field-0) c.in_ok-strip_prefix.ensures.cases
 
-after-comma : (c : After-read_numeral) → c.read_numeral.result ≡ numeral_of (drop 1 (text_of c))
-after-comma c = c.read_numeral.ensures ∙ ap numeral_of (part_from (text_of c) 1)
+pub returns-in_err-strip_prefix : goal.returns-in_err-strip_prefix
+returns-in_err-strip_prefix c =
+    c.from_residual.ensures ∙ next_other _ (strip_prefix_is Decides-eqb c.args.text.now (comma ∷ []) None c.in_err-strip_prefix.ensures.cases)
 
-next : (c : After-read_numeral) (r : Numeral) → c.read_numeral.result ≡ r → one_longer r ≡ next_numeral (text_of c)
-next c r e =
-    next_comma (text_of c) c.if-text-eq0.false c.if-text-ne44.false r (sym e ∙ after-comma c)
-
--- ---- The needs
-pub returns-then-text-eq0 : goal.returns-then-text-eq0
-returns-then-text-eq0 c = next_empty _ c.if-text-eq0.true
-
-pub returns-then-text-ne44 : goal.returns-then-text-ne44
-returns-then-text-ne44 c = next_other _ c.if-text-ne44.true
+pub returns-in_err-numeral : goal.returns-in_err-numeral
+returns-in_err-numeral c =
+    c.from_residual-in_err-numeral.ensures ∙ ap one_longer c.in_err-numeral.ensures ∙ next_comma _ _ (after-comma (goal.at.returns-in_err-numeral c).In_ok-strip_prefix)
 
 pub overflow_add-result : goal.overflow_add-result
-overflow_add-result c = omega (arith, numeral_inside (drop 1 (text_of (goal.at.overflow_add-result c).After-read_numeral)) _ _ (sym c.in-Number.is ∙ after-comma (goal.at.overflow_add-result c).After-read_numeral), length-drop 1 (text_of (goal.at.overflow_add-result c).After-read_numeral))
+overflow_add-result c = omega (arith, numeral_inside _ _ c.in_ok-numeral.ensures, ap length (after-comma (goal.at.overflow_add-result c).In_ok-strip_prefix))
 
-pub returns-in-Number : goal.returns-in-Number
-returns-in-Number c = next (goal.at.returns-in-Number c).After-read_numeral _ c.in-Number.is
-
-pub returns-in-Bad : goal.returns-in-Bad
-returns-in-Bad c = next (goal.at.returns-in-Bad c).After-read_numeral _ c.in-Bad.is
+pub returns : goal.returns
+returns c = ap one_longer c.in_ok-numeral.ensures ∙ next_comma _ _ (after-comma (goal.at.returns c).In_ok-strip_prefix)

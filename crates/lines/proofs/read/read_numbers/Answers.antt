@@ -1,40 +1,28 @@
 use native.Mathlib.Omega.{arith}
-use mathlib.Core.List.{List}
-use mathlib.Core.Path.{◌≡◌, sym, ap, ◌∙◌}
-use Prim.Native.Nat.{ℕ}
-use lib.ListN.{drop, length-drop}
+use mathlib.Core.Path.{◌≡◌, ap, ◌∙◌}
+use lib.ListN.{drop, length-drop, length-replicate}
+use Rattle.std.proofs.Common.{Some}
 use Rattle.lines.specs.ReadLines.{next_numeral}
-use Rattle.lines.proofs.NumberParts.{part_from, next_good, read_nothing, read_start, read_on, read_stop, read_over, read_end}
+use Rattle.lines.proofs.NumberParts.{part_from, next_good, read_nothing, read_start, read_on, read_stop, read_ends}
 use Rattle.lines.proofs.read.read_numbers.Goals as goal
-use Rattle.lines.proofs.read.read_numbers.Goals.{After-read_next, At-loop-k}
 
-abbrev here : At-loop-k → List ℕ
-here c = drop c.loop-k.at c.args.text.now
-
--- the numeral that was read in a turn
-next-read : (c : After-read_next) → c.read_next.result ≡ next_numeral ((drop c.loop-k.at c.args.text.now))
-next-read c =
-    c.read_next.ensures ∙ ap next_numeral (part_from c.args.text.now c.loop-k.at)
-
-pub returns-in_default : goal.returns-in_default
-returns-in_default c = c.bad_numbers.ensures ∙ read_nothing _ _ c.requires.0 (sym c.in_default.is ∙ c.read_numeral.ensures)
+pub returns-in_err-first : goal.returns-in_err-first
+returns-in_err-first g c = c.from_residual.ensures ∙ read_nothing _ _ c.requires c.in_err-first.ensures
 
 pub loop-k-init : goal.loop-k-init
-loop-k-init c = read_start _ _ _ _ c.requires.0 (sym c.in-Number.is ∙ c.read_numeral.ensures)
+loop-k-init g c = read_start _ _ _ _ c.requires (length-replicate g.row.N 0) c.in_ok-first.ensures
+
+pub returns-in_err-next : goal.returns-in_err-next
+returns-in_err-next g c =
+    c.from_residual-in_err-next.ensures ∙ read_stop _ _ c.loop-k.invariant c.loop-k-test.true (c.in_err-next.ensures ∙ ap next_numeral (part_from c.args.text.now c.loop-k.at))
 
 pub overflow_add-at : goal.overflow_add-at
-overflow_add-at c =
-    let next = sym c.in-Number-read_next.is ∙ next-read (goal.at.overflow_add-at c).After-read_next in
-    omega (arith, (next_good (here (goal.at.overflow_add-at c).At-loop-k) _ _ 0 next).1, length-drop c.loop-k.at c.args.text.now)
+overflow_add-at g c =
+    let next : Some c.in_ok-next.next ≡ next_numeral (drop c.loop-k.at c.args.text.now) = c.in_ok-next.ensures ∙ ap next_numeral (part_from c.args.text.now c.loop-k.at) in
+    omega (arith, (next_good _ _ 0 next).1, length-drop c.loop-k.at c.args.text.now)
 
 pub loop-k-preserved : goal.loop-k-preserved
-loop-k-preserved c = read_on _ _ c.loop-k.invariant _ _ c.requires.1 c.loop-k-test.true (sym c.in-Number-read_next.is ∙ next-read (goal.at.loop-k-preserved c).After-read_next)
-
-pub returns-in-Bad : goal.returns-in-Bad
-returns-in-Bad c = c.bad_numbers-in-Bad.ensures ∙ read_stop _ _ c.loop-k.invariant c.loop-k-test.true (sym c.in-Bad.is ∙ next-read (goal.at.returns-in-Bad c).After-read_next)
-
-pub returns-then-at-text : goal.returns-then-at-text
-returns-then-at-text c = c.bad_numbers-then-at-text.ensures ∙ read_over _ _ c.loop-k.invariant c.loop-k-test.false c.if-at-text.true
+loop-k-preserved g c = read_on _ _ c.loop-k.invariant _ c.loop-k-test.true (c.in_ok-next.ensures ∙ ap next_numeral (part_from c.args.text.now c.loop-k.at))
 
 pub returns : goal.returns
-returns c = read_end _ _ c.loop-k.invariant c.requires.1 c.loop-k-test.false c.if-at-text.false
+returns g c = c.then_some.ensures ∙ read_ends _ _ c.loop-k.invariant c.loop-k-test.false
