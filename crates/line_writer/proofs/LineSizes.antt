@@ -47,9 +47,8 @@ comma_part (suc k) (n ∷ []) = rw (take-nil k) (omega arith)
 comma_part (suc zero) (n ∷ m ∷ ns) = omega (arith, comma_length n m ns)
 comma_part (suc (suc k)) (n ∷ m ∷ ns) = omega (arith, comma_length n m (take k ns), comma_length n m ns, comma_part (suc k) (m ∷ ns))
 
-pub comma_room : (ns : List ℕ) (k : ℕ) → 1 ≤ k → k < length ns → length (comma_list (take k ns)) + 1 + length (decimal (get_or ns k 0)) ≤ length (comma_list ns)
-comma_room ns k some h =
-    omega (arith, comma_part (k + 1) ns, ap length (comma_next ns k some h), length-append (comma_list (take k ns)) (comma ∷ decimal (get_or ns k 0)))
+pub comma_room : (ns : List ℕ) (k : ℕ) → 1 ≤ k → k < length ns → length (comma_list (take k ns) ++ (comma ∷ decimal (get_or ns k 0))) ≤ length (comma_list ns)
+comma_room ns k some h = rw (sym (comma_next ns k some h)) (comma_part (k + 1) ns)
 
 -- ---- Lines
 
