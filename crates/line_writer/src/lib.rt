@@ -6,6 +6,8 @@ ghost use Rattle.std.specs.Prelude.{◌≡◌, [], ◌∷◌, ◌+◌, ◌≤◌
 ghost use Rattle.rules.specs.Lines.{decimal, comma_list, line};
 ghost use Rattle.line_writer.specs.Writing.{HasRoom, Wrote};
 
+use itoa::Buffer;
+
 // A lent buffer, and the place in it where the next text goes.
 #[derive(Drop)]
 pub struct Writer<'a> {
@@ -45,10 +47,8 @@ impl<'a> Writer<'a> {
         requires { HasRoom self.old (decimal n) }
         ensures { Wrote self.old (decimal n) self.new }
     {
-        if n >= 10 {
-            self.number(n / 10);
-        }
-        self.byte(b'0' + (n % 10) as u8);
+        let mut digits = Buffer::new();
+        self.bytes(digits.format(n).as_bytes());
     }
 
     // Numbers with a comma between two.
