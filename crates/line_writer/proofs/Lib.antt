@@ -1,4 +1,4 @@
 -- What the functions' proofs cite, and other crates may: laws of what is written, and of how long it is.
 pub mod Puts
 pub mod LineSizes
-pub mod NumberLines
+pub mod Laid

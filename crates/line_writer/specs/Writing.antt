@@ -1,6 +1,8 @@
 -- What the writers leave in a buffer.
 use Rattle.std.specs.Prelude.{List, [], ◌∷◌, ◌++◌, ◌≡◌, ℕ, ◌+◌, ◌≤◌, length}
 use Rattle.std.proofs.lemmas.List.Edits.{sets}
+use Rattle.std.specs.Borrow.{Bor}
+use Rattle.rules.specs.Lines.{line}
 use Rattle.line_writer.specs.declared.Writer.{Writer}
 
 -- a text was stored from a place on, and the next place is after it
@@ -21,3 +23,7 @@ pub record Wrote (before : Writer) (text : List ℕ) (after : Writer) : Type 0 w
 unfoldable pub laid : {A : Type 0} → (A → List ℕ) → List A → List ℕ
 laid f [] = []
 laid f (x ∷ xs) = f x ++ laid f xs
+
+-- the line of a key and one number
+abbrev pub keyed_line : Bor (List ℕ) × ℕ → List ℕ
+keyed_line l = line l.0.now (l.1 ∷ [])

@@ -4,15 +4,15 @@
 
 ghost use Rattle.std.specs.Prelude.{◌≡◌, [], ◌∷◌, ◌+◌, ◌≤◌, length};
 ghost use Rattle.rules.specs.Lines.{decimal, comma_list, line};
-ghost use Rattle.line_writer.specs.Writing.{HasRoom, Wrote};
+ghost use Rattle.line_writer.specs.Writing.{HasRoom, Wrote, laid, keyed_line};
 
 use itoa::Buffer;
 
 // A lent buffer, and the place in it where the next text goes.
 #[derive(Drop)]
 pub struct Writer<'a> {
-    pub buffer: &'a mut [u8],
-    pub at: usize,
+    buffer: &'a mut [u8],
+    at: usize,
 }
 
 impl<'a> Writer<'a> {
@@ -23,6 +23,13 @@ impl<'a> Writer<'a> {
         ensures at { result.at ≡ 0 }
     {
         Writer { buffer, at: 0 }
+    }
+
+    // The length of what was written.
+    pub fn len(&self) -> usize
+        ensures { result ≡ self.now.at }
+    {
+        self.at
     }
 
     fn byte(&mut self, b: u8)
@@ -81,5 +88,15 @@ impl<'a> Writer<'a> {
         ensures { Wrote self.old (line key.now (n ∷ [])) self.new }
     {
         self.line(key, &[n]);
+    }
+
+    // Lines with one number each.
+    pub fn number_lines(&mut self, lines: &[(&[u8], u32)])
+        requires { HasRoom self.old (laid keyed_line lines.now) }
+        ensures { Wrote self.old (laid keyed_line lines.now) self.new }
+    {
+        for (key, n) in lines {
+            self.number_line(key, *n);
+        }
     }
 }
