@@ -1,7 +1,7 @@
 -- Texts of a list's members, laid one after the other: the next one, and the room for it. Assumes nothing.
 use mathlib.Core.List.{List, [], ◌∷◌, ◌++◌, append_assoc, append-nil}
 use mathlib.Core.Path.{◌≡◌, refl, sym, ap, ◌∙◌}
-use Prim.Native.Nat.{ℕ, zero, suc, ◌+◌, ◌≤◌, ◌<◌}
+use Prim.Native.Nat.{ℕ, ◌+◌, ◌≤◌, ◌<◌}
 use native.Mathlib.Numerals.{add-one}
 use native.Mathlib.Omega.{arith}
 use lib.ListN.{length, get_or, take, drop, length-append, take-append-drop}
@@ -22,10 +22,10 @@ module _ {A : Type 0} (f : A → List ℕ) (d : A) where
   pub laid_room : (xs : List A) (k : ℕ) → k < length xs → length (laid f (take k xs) ++ f (get_or xs k d)) ≤ length (laid f xs)
   laid_room xs k h =
       rw (sym (laid_next xs k h)) (
-        omega (
-          arith,
-          ap (λ (l : List A). length (laid f l)) (take-append-drop (k + 1) xs),
-          ap length (laid_append (take (k + 1) xs) (drop (k + 1) xs)),
-          length-append (laid f (take (k + 1) xs)) (laid f (drop (k + 1) xs)),
-        )
+      omega (
+        arith,
+        ap (λ (l : List A). length (laid f l)) (take-append-drop (k + 1) xs),
+        ap length (laid_append (take (k + 1) xs) (drop (k + 1) xs)),
+        length-append (laid f (take (k + 1) xs)) (laid f (drop (k + 1) xs)),
+      )
       )

@@ -1,15 +1,13 @@
 -- Texts written one after the other. Assumes nothing.
 use mathlib.Core.List.{List, [], ◌∷◌, ◌++◌, append_assoc}
 use mathlib.Core.Path.{◌≡◌, refl, sym, ap, subst, ◌∙◌}
-use Prim.Native.Nat.{ℕ, suc, ◌+◌, ◌-◌, ◌/◌, ◌%◌, ◌≤◌, ◌<◌}
+use Prim.Native.Nat.{ℕ, suc, ◌+◌, ◌-◌, ◌≤◌}
 use native.Mathlib.Omega.{arith}
 use borrow.Rule.Slice.PartMut.{put_mid, Post-is}
 use lib.ListN.{length, take, drop, set, length-append}
 use lib.Seq.{sets, sets-eq, length-sets}
-use Rattle.rules.specs.Lines.{decimal}
 use Rattle.line_writer.specs.declared.Writer.{Writer}
 use Rattle.line_writer.specs.Writing.{Put, HasRoom, Wrote}
-use Rattle.numerals.proofs.Decimal.{decimal_one, decimal_more}
 
 sets_append : (l : List ℕ) (i : ℕ) (vs ws : List ℕ) → sets (sets l i vs) (i + length vs) ws ≡ sets l i (vs ++ ws)
 sets_append l i [] ws = ap (λ (k : ℕ). sets l k ws) (omega arith)
@@ -52,11 +50,8 @@ room_within {a} {b} {t} u whole p h le =
 pub room_left : {a b : Writer} {t : List ℕ} (u : List ℕ) → Wrote a t b → HasRoom a (t ++ u) → HasRoom b u
 room_left {t} u p h = room_within u (t ++ u) p h (omega arith)
 
--- ---- A number: one digit, or the last digit after the others
-
-pub last_digit : (n : ℕ) → 10 ≤ n → decimal n ≡ decimal (n / 10) ++ ((48 + n % 10) ∷ [])
-last_digit n h = decimal_more n h
-
-pub only_digit : (n : ℕ) → n < 10 → decimal n ≡ (48 + n % 10) ∷ []
-only_digit n h = decimal_one n h ∙ ap (λ (d : ℕ). (48 + d) ∷ []) (omega arith)
-
+-- what was written at a buffer's front
+pub wrote_front : {a b : Writer} {text : List ℕ} → a.at ≡ 0 → HasRoom a text → Wrote a text b
+    → (b.at ≡ length text) × (b.buffer.now ≡ text ++ drop (length text) a.buffer.now)
+wrote_front {a} {b} {text} front room p =
+    (omega (arith, p.put.end), p.put.stored ∙ sets-eq text a.buffer.now a.at room ∙ rw front (ap (λ (n : ℕ). text ++ drop n a.buffer.now) (omega arith)))

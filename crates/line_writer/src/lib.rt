@@ -50,6 +50,7 @@ impl<'a> Writer<'a> {
         self.at = end;
     }
 
+    // By `itoa`, which takes no heap and can't fail, as `write!` may.
     fn number(&mut self, n: u32)
         requires { HasRoom self.old (decimal n) }
         ensures { Wrote self.old (decimal n) self.new }

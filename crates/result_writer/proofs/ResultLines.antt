@@ -8,7 +8,7 @@ use Rattle.rules.specs.Decomposition.{Run}
 use Rattle.rules.specs.Lines.{number_lines}
 use Rattle.rules.specs.ResultText.{verdict_line, result_keys, result_numbers, mask_line, mask_lines, result_text}
 use Rattle.line_writer.specs.Writing.{laid}
-use Rattle.line_writer.proofs.NumberLines.{laid_next, laid_room}
+use Rattle.line_writer.proofs.Laid.{laid_next, laid_room}
 
 -- ---- Masks
 
@@ -21,7 +21,7 @@ module _ (masks : List ℕ) (k : ℕ) (h : k < length masks) where
   pub masks_next : mask_lines (take (k + 1) masks) ≡ mask_lines (take k masks) ++ mask_line (get_or masks k 0)
   masks_next = mask_laid (take (k + 1) masks) ∙ laid_next mask_line 0 masks k h ∙ ap (λ (l : List ℕ). l ++ mask_line (get_or masks k 0)) (sym (mask_laid (take k masks)))
 
-  pub masks_room : length (mask_lines (take k masks)) + length (mask_line (get_or masks k 0)) ≤ length (mask_lines masks)
+  pub masks_room : length (mask_lines (take k masks) ++ mask_line (get_or masks k 0)) ≤ length (mask_lines masks)
   masks_room = rw (mask_laid (take k masks), mask_laid masks) (laid_room mask_line 0 masks k h)
 
 -- ---- A result

@@ -1,41 +1,79 @@
 -- `write_result`: the verdict, the four counts, the masks. Assumes nothing.
 use native.Mathlib.Omega.{arith}
-use mathlib.Core.Path.{refl, ◌∙◌}
+use mathlib.Core.List.{List, ◌++◌}
+use mathlib.Core.Path.{◌≡◌, sym, ap, ◌∙◌}
+use Prim.Native.Nat.{ℕ}
+use Rattle.std.proofs.Common.{rules}
+use lib.ListN.{length, get_or, drop}
+use lib.Seq.{take_all}
 use Rattle.rules.specs.Answers.{run_of}
-use Rattle.rules.specs.ResultText.{result_text}
-use Rattle.line_writer.proofs.Puts.{put_on, put_front}
-use Rattle.result_writer.proofs.ResultLines.{result_size}
+use Rattle.rules.specs.Decomposition.{Run}
+use Rattle.rules.specs.Lines.{ascii, number_lines}
+use Rattle.rules.specs.ResultText.{verdict_line, result_keys, result_numbers, mask_line, mask_lines, result_text}
+use Rattle.line_writer.specs.Writing.{HasRoom, Wrote, laid}
+use Rattle.line_writer.proofs.Puts.{wrote_none, wrote_on, wrote_as, wrote_front, room_front, room_left, room_within}
+use Rattle.result_writer.proofs.ResultLines.{masks_next, masks_room}
 use Rattle.result_writer.proofs.write_result.Goals as goal
+use Rattle.result_writer.proofs.write_result.Goals.{After-new-out, After-bytes, After-number_lines, After-len}
 
-pub write_verdict-end-requires : goal.write_verdict-end-requires
-write_verdict-end-requires c = omega (arith, c.requires, result_size (run_of c.args.res c.args.masks.now))
+abbrev counts : Run → List ℕ
+counts r = number_lines result_keys (result_numbers r)
 
-pub write_counts-next-requires : goal.write_counts-next-requires
-write_counts-next-requires c =
-    record {
-      counts_len = refl;
-      counts_in_bounds = omega (arith, c.requires, result_size (run_of c.args.res c.args.masks.now), c.write_verdict-end.ensures.end, c.write_verdict-end.auto.buffer);
-    }
+-- the writer begins at the front of a buffer with room for the whole text
+room : (c : After-new-out) → HasRoom c.new-out.result (result_text (run_of c.args.res c.args.masks.now))
+room c = omega (arith, c.requires, c.new-out.ensures.at, ap length c.new-out.ensures.buffer)
 
-pub write_masks-requires : goal.write_masks-requires
-write_masks-requires c =
-    omega (
-      arith,
-      c.requires,
-      result_size (run_of c.args.res c.args.masks.now),
-      c.write_verdict-end.ensures.end,
-      c.write_verdict-end.auto.buffer,
-      c.write_counts-next.ensures.end,
-      c.write_counts-next.auto.buffer,
-    )
+verdict : (c : After-bytes) → Wrote c.new-out.result (verdict_line c.args.res.verdict) c.bytes.new.self
+verdict c = wrote_as c.verdict_line.ensures c.bytes.ensures
 
-pub shape_of-buffer : goal.shape_of-buffer
-shape_of-buffer c = c.write_masks.auto.buffer ∙ c.write_counts-next.auto.buffer ∙ c.write_verdict-end.auto.buffer
+-- the table has the lines of the counts
+four : (c : After-number_lines) → Wrote c.new-out.result (verdict_line c.args.res.verdict ++ counts (run_of c.args.res c.args.masks.now)) c.number_lines.new.self
+unfolding laid ascii number_lines
+four c = wrote_on (wrote_as c.verdict_line.ensures c.bytes.ensures) c.number_lines.ensures
 
-pub returns : goal.returns
+pub bytes-requires : goal.bytes-requires
 unfolding result_text
-returns c =
-    record {
-      length = (put_front c.requires (put_on (put_on c.write_verdict-end.ensures c.write_counts-next.ensures) c.write_masks.ensures)).0;
-      written = (put_front c.requires (put_on (put_on c.write_verdict-end.ensures c.write_counts-next.ensures) c.write_masks.ensures)).1;
-    }
+bytes-requires c =
+    let w = c.new-out.result in
+    rw c.verdict_line.ensures (room_front w _ _ (room_front w _ (mask_lines c.args.masks.now) (room (goal.at.bytes-requires c).After-new-out)))
+
+pub number_lines-requires : goal.number_lines-requires
+unfolding result_text laid ascii number_lines
+number_lines-requires c = room_left _ (verdict (goal.at.number_lines-requires c).After-bytes) (room_front c.new-out.result _ (mask_lines c.args.masks.now) (room (goal.at.number_lines-requires c).After-new-out))
+
+pub loop-mask-init : goal.loop-mask-init
+unfolding mask_lines
+loop-mask-init c = wrote_none _
+
+pub number_line-requires : goal.number_line-requires
+unfolding result_text ascii
+number_line-requires c =
+    let left = room_left (mask_lines c.args.masks.now) (four (goal.at.number_line-requires c).After-number_lines) (room (goal.at.number_line-requires c).After-new-out) in
+    rw c.from.ensures (room_within (mask_line (get_or c.args.masks.now c.loop-mask.mask-index 0)) _ c.loop-mask.invariant left (masks_room c.args.masks.now c.loop-mask.mask-index c.loop-mask-test.true))
+
+pub loop-mask-preserved : goal.loop-mask-preserved
+unfolding ascii
+loop-mask-preserved c =
+    wrote_as (sym (masks_next c.args.masks.now c.loop-mask.mask-index c.loop-mask-test.true))
+    (wrote_on c.loop-mask.invariant (rw c.from.ensures at c.number_line.ensures))
+
+-- the whole text
+whole : (c : After-len) → Wrote c.new-out.result (result_text (run_of c.args.res c.args.masks.now)) c.loop-mask.out
+unfolding result_text laid ascii number_lines
+whole c =
+    let masks = c.args.masks.now in
+    wrote_on (wrote_on (wrote_as c.verdict_line.ensures c.bytes.ensures) c.number_lines.ensures) (wrote_as (ap mask_lines (take_all c.loop-mask.mask-index masks c.loop-mask-test.false)) c.loop-mask.invariant)
+
+pub returns-clause-length : goal.returns-clause-length
+returns-clause-length c =
+    c.len.ensures ∙ (wrote_front c.new-out.ensures.at (room (goal.at.returns-clause-length c).After-new-out) (whole (goal.at.returns-clause-length c).After-len)).0
+
+-- the buffer that comes back is the writer's, since the writer kept the reference
+pub returns-clause-written : goal.returns-clause-written
+returns-clause-written c =
+    let text = result_text (run_of c.args.res c.args.masks.now) in
+    let wrote = whole (goal.at.returns-clause-written c).After-len in
+    let kept : c.new-out.result.buffer.ghost_name ≡ c.loop-mask.out.buffer.ghost_name = sym wrote.reference in
+    search (rules, sym c.new-out.ensures.reference ∙ kept)
+    ∙ (wrote_front c.new-out.ensures.at (room (goal.at.returns-clause-written c).After-new-out) wrote).1
+    ∙ ap (λ (b : List ℕ). text ++ drop (length text) b) c.new-out.ensures.buffer

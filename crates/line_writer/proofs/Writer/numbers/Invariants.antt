@@ -1,5 +1,4 @@
 -- `numbers`: the first number, and a comma and a number for each number passed. Assumes nothing.
-use mathlib.Core.List.{List}
 use Prim.Native.Nat.{◌+◌}
 use lib.ListN.{take}
 use Rattle.rules.specs.Lines.{comma_list}
