@@ -31,7 +31,7 @@ fn number_at(entries: &[u8; 1024], index: usize) -> u8
     requires index_bound { index < 1024 }
     ensures { result ≡ entry_of index }
 {
-    entries[index] - 48
+    entries[index] - b'0'
 }
 
 // The least number of conflicts with three masks of the graph on five pieces with this index.
