@@ -10,7 +10,7 @@ use borrow.Author.Tests.{ne_eqb}
 use Rattle.rules.specs.Basics.{sum_to, sum_pairs}
 use Rattle.rules.specs.Score.{same_mask}
 use Rattle.rules.specs.Library.{pair_number, bit_at, indexed}
-use Rattle.rules.proofs.Sums.{pairs_next, pairs_le}
+use Rattle.rules.proofs.Sums.{pairs_le}
 use Rattle.rules.proofs.ScoreBounds.{given_le}
 use Rattle.library_table.specs.Assignments.{conflicts_between}
 
@@ -39,11 +39,5 @@ pub between_le : (index : ℕ) (masks : List ℕ) (u v : ℕ) → conflicts_betw
 unfolding bit_at
 between_le index masks u v = given_le (same_mask masks u v) (given_le (not (eqb u v)) (omega arith))
 
-module _ (index : ℕ) (masks : List ℕ) (v : ℕ) where
-  pub pairs_few : v ≤ 5 → sum_pairs (conflicts_between index masks) v ≤ 10
-  pairs_few l = omega (arith, pairs_le (conflicts_between index masks) v (between_le index masks), mul-le-mul_right v l)
-
-  -- what is counted before v, with the conflicts of v
-  pub pairs_counted : {count row : ℕ} → count ≡ sum_pairs (conflicts_between index masks) v → row ≡ sum_to (λ u. conflicts_between index masks u v) v
-      → count + row ≡ sum_pairs (conflicts_between index masks) (v + 1)
-  pairs_counted e r = omega (arith, pairs_next (conflicts_between index masks) v)
+pub pairs_few : (index : ℕ) (masks : List ℕ) (v : ℕ) → v ≤ 5 → sum_pairs (conflicts_between index masks) v ≤ 10
+pairs_few index masks v l = omega (arith, pairs_le (conflicts_between index masks) v (between_le index masks), mul-le-mul_right v l)

@@ -1,11 +1,17 @@
 -- The numbers 0 to 242 are those of all assignments of three masks to five pieces, so that the least over the numbers is the least over the assignments.
 -- Assumes nothing.
-use mathlib.Core.List.{List, [], ◌∷◌}
+use mathlib.Core.List.{List, [], ◌∷◌, map}
 use mathlib.Core.Path.{◌≡◌, refl, sym, ap, ◌∙◌}
-use Prim.Native.Nat.{ℕ, zero, suc, ◌+◌, ◌*◌, ◌-◌, ◌/◌, ◌%◌, ◌≤◌, ◌<◌, min}
+use Prim.Native.Nat.{ℕ, zero, suc, ◌+◌, ◌*◌, ◌/◌, ◌%◌, ◌≤◌, ◌<◌, min}
 use native.Mathlib.Nat.{le_trans, le_of_eq, le_antisymm}
 use native.Mathlib.Omega.{arith}
+use native.Mathlib.Numerals.{add-one}
 use lib.ListN.{length}
+use Rattle.std.proofs.Common.{Option, Some, fold}
+use Rattle.std.specs.List.{range_with_len, reduce}
+use Rattle.std.specs.Option.{option_map}
+use Rattle.std.proofs.lemmas.List.FromFn.{map-range_with_len_more}
+use Rattle.std.proofs.lemmas.List.Sums.{fold_push}
 use Rattle.rules.specs.Basics.{sum_pairs}
 use Rattle.rules.specs.Score.{conflicts_of}
 use Rattle.rules.specs.Library.{least_to, least_over, indexed}
@@ -55,14 +61,21 @@ tried f =
     (le_trans (to_low (λ a. f (masks_of a)) 242 n.0 n.1) (le_of_eq (ap f n.2 ∙ best.value)))
     (le_trans (over_low 3 5 f (masks_of at.0) refl (three at.0)) (le_of_eq (sym at.2)))
 
--- one number more
-pub to_next : (f : ℕ → ℕ) (k : ℕ) → 0 < k → least_to f (k + 1 - 1) ≡ min (least_to f (k - 1)) (f k)
+-- what an iterator finds as the least over the numbers up to n
+least_range : (f : ℕ → ℕ) (n : ℕ) → fold min (f 0) (map f (range_with_len 1 n)) ≡ least_to f n
 unfolding least_to
-to_next f zero h = absurd (omega arith)
-to_next f (suc k) h =
-    let up : suc k + 1 - 1 ≡ suc k = omega arith in
-    let down : suc k - 1 ≡ k = omega arith in
-    rw (up, down)
+least_range f zero = refl
+least_range f (suc n) =
+    ap (λ (k : ℕ). fold min (f 0) (map f (range_with_len 1 k))) (sym (add-one n))
+    ∙ ap (fold min (f 0)) (map-range_with_len_more f 1 n (suc n) (omega arith))
+    ∙ fold_push min (f 0) (map f (range_with_len 1 n)) (f (suc n))
+    ∙ ap (λ (x : ℕ). min x (f (suc n))) (least_range f n)
+
+pub least_found : (f : ℕ → ℕ) (n : ℕ) (r : Option ℕ) (x : ℕ) → option_map (λ y. y) r ≡ reduce min (map f (range_with_len 0 (suc n))) → r ≡ Some x → x ≡ least_to f n
+least_found f n r x e q =
+    let both : Some x ≡ Some (fold min (f 0) (map f (range_with_len 1 n))) = rw q at e in
+    let same : x ≡ fold min (f 0) (map f (range_with_len 1 n)) = cc in
+    same ∙ least_range f n
 
 module _ (index a : ℕ) where
   -- the conflicts of an assignment, pair by pair

@@ -8,7 +8,7 @@ ghost use Rattle.rules.specs.Score.{conflicts_of};
 ghost use Rattle.rules.specs.Library.{pair_number, indexed, entry_of};
 ghost use Rattle.library_table.specs.Assignments.{masks_of, conflicts_between};
 
-use std::io;
+use std::{array, io};
 
 // ---- conflicts
 
@@ -61,13 +61,7 @@ fn conflicts_before(index: usize, masks: &[u8; 5], v: usize) -> u8
     requires { v < 5 }
     ensures { result ≡ sum_to (λ u. conflicts_between index masks.now u v) v }
 {
-    let mut count = 0;
-    let mut u = 0;
-    while u < v {
-        count += conflicts_between(index, masks, u, v);
-        u += 1;
-    }
-    count
+    (0..v).map(|u| conflicts_between(index, masks, u, v)).sum()
 }
 
 // How many conflicts an assignment has in the graph with this index.
@@ -75,29 +69,17 @@ fn conflicts(index: usize, assignment: u8) -> u8
     ensures { result ≡ conflicts_of (indexed 5 index) (masks_of assignment) 5 }
 {
     let masks = masks_of(assignment);
-    let mut count = 0;
-    let mut v = 0;
-    while v < 5 {
-        count += conflicts_before(index, &masks, v);
-        v += 1;
-    }
-    count
+    (0..5).map(|v| conflicts_before(index, &masks, v)).sum()
 }
 
 // The least number of conflicts of the graph with this index, over all 243 assignments.
 fn least_conflicts(index: usize) -> u8
     ensures { (result ≡ entry_of index) × (result ≤ 10) }
 {
-    let mut least = conflicts(index, 0);
-    let mut assignment = 1;
-    while assignment < 243 {
-        let count = conflicts(index, assignment);
-        if count < least {
-            least = count;
-        }
-        assignment += 1;
-    }
-    least
+    (0..243)
+        .map(|assignment| conflicts(index, assignment))
+        .min()
+        .unwrap()
 }
 
 // ---- lines
@@ -107,13 +89,7 @@ fn digits(first: usize) -> [u8; 64]
     requires { first < 1024 }
     ensures { (i : ℕ) → i < 64 → get_or result i 0 ≡ 48 + entry_of (first + i) }
 {
-    let mut line = [0u8; 64];
-    let mut i = 0;
-    while i < 64 {
-        line[i] = 48 + least_conflicts(first + i);
-        i += 1;
-    }
-    line
+    array::from_fn(|i| b'0' + least_conflicts(first + i))
 }
 
 // A line of the table, with what ends it in the source.

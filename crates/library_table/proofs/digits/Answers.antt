@@ -1,29 +1,23 @@
-use mathlib.Core.List.{List}
-use mathlib.Core.Path.{◌≡◌, refl, ap, ◌∙◌}
-use Prim.Native.Nat.{ℕ, ◌+◌, ◌<◌}
-use native.Mathlib.Omega.{arith}
-use lib.ListN.{length, set, length-set}
-use lib.Seq.{get_or-set_same, get_or-set_other}
-use borrow.Author.Count.{below_more}
+-- `digits`: the call at each index gave the entry's digit. Assumes nothing.
+use Rattle.std.proofs.Common.{◌≡◌, ℕ, zero, suc, ◌+◌, ◌<◌, ◌≤◌, List, get_or, sym, ap, ◌∙◌, subst, arith, rules}
+use Rattle.std.specs.Array.{IsFromFnResultFrom}
+use denote.Param.Members.{Mut, Called}
+use Rattle.rules.proofs.Tests.{lt_or_ge}
+use mathlib.Core.Logic.{⊎_elim}
 use Rattle.rules.specs.Library.{entry_of}
-use Rattle.library_table.proofs.digits.Invariants.{Done}
 use Rattle.library_table.proofs.digits.Goals as goal
 
--- one place more
-more : (first : ℕ) (line : List ℕ) (i x : ℕ) → i < length line → x ≡ 48 + entry_of (first + i) → Done first line i → Done first (set line i x) (i + 1)
-more first line i x l e done =
-    below_more _ i
-    (λ j h. get_or-set_other line i j x 0 (λ q. omega arith) ∙ done j h)
-    (get_or-set_same line i x 0 l ∙ e)
-
-pub loop-i-init : goal.loop-i-init
-loop-i-init c = (omega arith, refl, λ j l. absurd (omega arith))
-
-pub loop-i-preserved : goal.loop-i-preserved
-loop-i-preserved c =
-    let at = c.loop-i in
-    let digit : 48 + c.least_conflicts.result ≡ 48 + entry_of (c.args.first + at.i) = ap (λ (x : ℕ). 48 + x) c.least_conflicts.ensures.0 in
-    (omega arith, simp length-set at.invariant.1, more c.args.first at.line at.i (48 + c.least_conflicts.result) (omega arith) digit at.invariant.2)
+-- the n items from i on, where each call leaves the closure as it is and gives h of its index
+at_each : {F : Type 0} (g : Mut F (ℕ × Unit {0}) ℕ) (h : ℕ → ℕ) (f : F) (ys : List ℕ) → ((j r : ℕ) (q : F) → Called g f (j, tt) r q → (q ≡ f) × (r ≡ h j)) → (n i : ℕ) → IsFromFnResultFrom g f ys i n → (j : ℕ) → i ≤ j → j < i + n → get_or ys j 0 ≡ h j
+at_each g h f ys step zero i made j from below = absurd (omega arith)
+at_each g h f ys step (suc n) i made j from below =
+    let one = step i made.1 made.0 made.3 in
+    ⊎_elim
+    (λ l. at_each g h f ys step n (i + 1) (subst (λ p. IsFromFnResultFrom g p ys (i + 1) n) one.0 made.4) j (omega arith) (omega arith))
+    (λ l.
+    let here : j ≡ i = omega arith in
+    ap (λ (k : ℕ). get_or ys k 0) here ∙ made.2.1 0 ∙ one.1 ∙ ap h (sym here))
+    (lt_or_ge i j)
 
 pub returns : goal.returns
-returns c j l = c.loop-i.invariant.2 j (omega arith)
+returns c i l = at_each _ (λ j. 48 + entry_of (c.args.first + j)) _ c.from_fn.result (λ j r q k. search rules) 64 0 c.from_fn.ensures.items.each i (omega arith) (omega arith)
