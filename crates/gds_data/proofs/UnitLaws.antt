@@ -2,8 +2,10 @@
 -- the largest fraction is too small. Assumes nothing.
 use mathlib.Core.Bool.{Bool, true, false, ◌&&◌}
 use mathlib.Core.Path.{◌≡◌, refl, sym, ap, ◌∙◌}
-use Prim.Native.Nat.{ℕ, suc, ◌+◌, ◌-◌, ◌*◌, ◌^◌, ◌%◌, ◌≤◌, ◌<◌}
-use native.Mathlib.Nat.{mul_assoc, mul_comm, mul_left_comm, mul-one, pow-suc, pow-le-pow_right, mul-le-mul_left, mul-lt-mul_of_pos_left, mul-lt-mul_of_pos_right, le-mul_of_pos_right, mod-eq_of_lt, lt_of_le_of_lt, lt_of_lt_of_le}
+use Prim.Native.Nat.{ℕ, zero, suc, ◌+◌, ◌-◌, ◌*◌, ◌^◌, ◌%◌, ◌≤◌, ◌<◌}
+use Rattle.std.proofs.Common.{Option, Some, None, MatchOption, subst}
+use Rattle.std.specs.Option.{SomeIff}
+use native.Mathlib.Nat.{zero-mul, suc-mul, mul_assoc, mul_comm, mul_left_comm, mul-one, pow-suc, pow-le-pow_right, mul-le-mul_left, mul-lt-mul_of_pos_left, mul-lt-mul_of_pos_right, le-mul_of_pos_right, mod-eq_of_lt, lt_of_le_of_lt, lt_of_lt_of_le}
 use native.Mathlib.Omega.{arith}
 use lib.Dec.{leb, lit<, lit≤}
 use lib.Pow.{pow-add}
@@ -25,28 +27,24 @@ within_high least greatest x h =
 
 -- ---- A factor of 16
 
-power_some : (k : ℕ) → 0 < 16 ^ k
-power_some k =
-    let none : 0 ≤ k = omega arith in
-    let up : 16 ^ 0 ≤ 16 ^ k = pow-le-pow_right {n = 16} (lit< tt) none in omega arith
+-- the factor leaves 64 bits: what it is applied to does too, or is 0
+pub wide_factor : (f k : ℕ) → (16 ^ k < 18_446_744_073_709_551_616 → ⊥) → false ≡ passing (f * 16 ^ k)
+wide_factor zero k h = sym (rw (zero-mul (16 ^ k)))
+wide_factor (suc f) k h = sym (within_high _ _ (suc f * 16 ^ k) (omega (arith, suc-mul f (16 ^ k))))
 
-pub once_more : (f k : ℕ) → passing (16 * f * 16 ^ k) ≡ passing (f * 16 ^ (suc k))
-once_more f k = ap passing (mul_assoc 16 f (16 ^ k) ∙ mul_left_comm 16 f (16 ^ k) ∙ ap (λ (n : ℕ). f * n) (mul_comm 16 (16 ^ k) ∙ sym (pow-suc 16 k)))
+pub wide_product : (f k : ℕ) → (f * 16 ^ k < 18_446_744_073_709_551_616 → ⊥) → false ≡ passing (f * 16 ^ k)
+wide_product f k h = sym (within_high _ _ (f * 16 ^ k) (omega arith))
 
-pub too_large : (f k : ℕ) → 19_342_832_456_647_180 < f → passing (f * 16 ^ k) ≡ false
-too_large f k h =
-    let more : f ≤ f * 16 ^ k = le-mul_of_pos_right f (power_some k) in
-    within_high _ _ (f * 16 ^ k) (omega arith)
-
--- with no factor left
-pub last : (f k : ℕ) → k ≡ 0 → f ≤ 19_342_832_456_647_180 → leb 19_342_793_771_020_953 f ≡ passing (f * 16 ^ k)
-last f k e h =
-    let all : f * 16 ^ k ≡ f = ap (λ (n : ℕ). f * 16 ^ n) e ∙ mul-one f in
-    rw (all, le-leb f 19_342_832_456_647_180 h) (sym (and-true (leb 19_342_793_771_020_953 f)))
-  where
-    and-true : (b : Bool) → (b && true) ≡ b
-    and-true true = refl
-    and-true false = refl
+-- a factor and a product, each none where it leaves 64 bits
+pub scaled_in_range : (f k : ℕ) (factor product : Option ℕ) (r : Bool)
+    → SomeIff factor (16 ^ k < 18_446_744_073_709_551_616) (16 ^ k)
+    → MatchOption factor (product ≡ None) (λ g. SomeIff product (f * g < 18_446_744_073_709_551_616) (f * g))
+    → MatchOption product (r ≡ false) (λ x. r ≡ passing x)
+    → r ≡ passing (f * 16 ^ k)
+scaled_in_range f k None None r over p q = q ∙ wide_factor f k over
+scaled_in_range f k None (Some x) r over p q = cc
+scaled_in_range f k (Some g) None r fit p q = q ∙ wide_product f k (subst (λ n. f * n < 18_446_744_073_709_551_616 → ⊥) fit.1 p)
+scaled_in_range f k (Some g) (Some x) r fit p q = q ∙ ap passing (p.1 ∙ ap (λ n. f * n) fit.1)
 
 -- ---- The range scaled by u
 

@@ -1,11 +1,12 @@
--- A point of XY by its first byte, and the piece between two opposite corners whose coordinates are read without their sign; it has no fixed mask.
-use Rattle.std.specs.Prelude.{List, ℕ, ◌+◌, min, max}
+-- A point of XY by its number, and the piece between two opposite corners. Coordinates are read without their sign; a stream fixes no mask.
+use Rattle.std.specs.Prelude.{List, ℕ, ◌+◌, ◌*◌, min, max}
 use Rattle.rules.specs.declared.layer.Piece.{Piece}
 use Rattle.rules.specs.Settings.{unset}
-use Rattle.rules.specs.Stream.{word32, signed32, Point}
+use Rattle.rules.specs.Stream.{word32}
+use Rattle.gds_data.specs.declared.rectangle.Point.{Point}
 
 abbrev pub point_from : List ℕ → ℕ → Point
-point_from bytes at = record { x = signed32 (word32 bytes at); y = signed32 (word32 bytes (at + 4)) }
+point_from bytes i = record { x = word32 bytes (8 * i); y = word32 bytes (8 * i + 4) }
 
 abbrev pub corner_piece : List ℕ → ℕ → Piece
 corner_piece bytes shape = record {

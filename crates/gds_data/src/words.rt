@@ -7,7 +7,7 @@ pub fn word16(bytes: &[u8], at: usize) -> u16
     requires { at + 2 ≤ length bytes.now }
     ensures { result ≡ rules.word16 bytes.now at }
 {
-    256 * (bytes[at] as u16) + (bytes[at + 1] as u16)
+    u16::from_be_bytes([bytes[at], bytes[at + 1]])
 }
 
 // In the four bytes.
@@ -15,5 +15,5 @@ pub fn word32(bytes: &[u8], at: usize) -> u32
     requires { at + 4 ≤ length bytes.now }
     ensures { result ≡ rules.word32 bytes.now at }
 {
-    65_536 * (word16(bytes, at) as u32) + (word16(bytes, at + 2) as u32)
+    u32::from_be_bytes([bytes[at], bytes[at + 1], bytes[at + 2], bytes[at + 3]])
 }

@@ -1,33 +1,24 @@
--- `is_rectangle`: opposite corners apart, the last point at the first, and the others at the other corners. Assumes nothing.
-use native.Mathlib.Omega.{arith}
-use borrow.Author.Tests.{not-true, not-false}
-use mathlib.Core.Path.{sym, ◌∙◌}
-use Rattle.gds_data.proofs.RectangleLaws.{no_width, no_height, not_closed_lem, goes_one_way, goes_the_other}
-use mathlib.Core.Path.{ap}
-use mathlib.Core.Bool.{not}
+-- `is_rectangle`: opposite corners apart, and the three other points either way round. Assumes nothing.
+use mathlib.Core.Logic.{inl, inr}
+use Rattle.gds_data.proofs.RectangleLaws.{of_corners, no_width, no_height}
 use Rattle.gds_data.proofs.rectangle.is_rectangle.Goals as goal
+use Rattle.gds_data.proofs.rectangle.is_rectangle.Goals.{then-a-c, else-a-c}
 
-pub returns-then-x-far_x : goal.returns-then-x-far_x
-returns-then-x-far_x c =
-    let bytes = c.args.bytes.now in
-    no_width bytes _ _ _ _ c.word32-x.ensures c.word32-y.ensures c.word32-far_x.ensures c.word32-far_y.ensures (omega arith) (omega arith) (omega arith) (omega arith) c.if-x-far_x.true
+pub returns-then-eq : goal.returns-then-eq
+returns-then-eq c =
+    let judged = of_corners c.args.bytes.now c.type_inv.bytes _ _ _ _ _ c.point_at-a.ensures c.point_at-b.ensures c.point_at-c.ensures c.point_at-d.ensures c.point_at-e.ensures c.if-a-c-2.true.0 c.if-a-c-2.true.1 in
+    rw (judged, ← c.eq.ensures, c.if-eq.true)
 
-pub returns-then-y-far_y : goal.returns-then-y-far_y
-returns-then-y-far_y c =
-    let bytes = c.args.bytes.now in
-    no_height bytes _ _ _ _ c.word32-x.ensures c.word32-y.ensures c.word32-far_x.ensures c.word32-far_y.ensures (omega arith) (omega arith) (omega arith) (omega arith) c.if-x-far_x.false c.if-y-far_y.true
+pub returns-else-eq : goal.returns-else-eq
+returns-else-eq c =
+    let judged = of_corners c.args.bytes.now c.type_inv.bytes _ _ _ _ _ c.point_at-a.ensures c.point_at-b.ensures c.point_at-c.ensures c.point_at-d.ensures c.point_at-e.ensures c.if-a-c-2.true.0 c.if-a-c-2.true.1 in
+    rw (judged, ← c.eq.ensures, c.if-eq.false) c.eq-else-eq.ensures
 
-pub returns-then-not-lies_at : goal.returns-then-not-lies_at
-returns-then-not-lies_at c =
-    let bytes = c.args.bytes.now in
-    not_closed_lem bytes _ _ _ _ c.word32-x.ensures c.word32-y.ensures c.word32-far_x.ensures c.word32-far_y.ensures (omega arith) (omega arith) (omega arith) (omega arith) c.if-x-far_x.false c.if-y-far_y.false (sym c.lies_at.ensures ∙ not-true _ (ap not c.if-not-lies_at.true))
-
-pub returns-then-others_at : goal.returns-then-others_at
-returns-then-others_at c =
-    let bytes = c.args.bytes.now in
-    goes_one_way bytes _ _ _ _ c.word32-x.ensures c.word32-y.ensures c.word32-far_x.ensures c.word32-far_y.ensures (omega arith) (omega arith) (omega arith) (omega arith) c.if-x-far_x.false c.if-y-far_y.false (sym c.lies_at.ensures ∙ not-false _ (ap not c.if-not-lies_at.false)) (sym c.others_at.ensures ∙ c.if-others_at.true)
-
-pub returns : goal.returns
-returns c =
-    let bytes = c.args.bytes.now in
-    goes_the_other bytes _ _ _ _ c.word32-x.ensures c.word32-y.ensures c.word32-far_x.ensures c.word32-far_y.ensures (omega arith) (omega arith) (omega arith) (omega arith) c.if-x-far_x.false c.if-y-far_y.false (sym c.lies_at.ensures ∙ not-false _ (ap not c.if-not-lies_at.false)) (sym c.others_at.ensures ∙ c.if-others_at.false) c.others_at-2.result c.others_at-2.ensures
+pub returns-else-a-c-2 : goal.returns-else-a-c-2
+returns-else-a-c-2 c =
+    let flat = no_width c.args.bytes.now c.type_inv.bytes _ _ _ _ _ c.point_at-a.ensures c.point_at-b.ensures c.point_at-c.ensures c.point_at-d.ensures c.point_at-e.ensures in
+    let level = no_height c.args.bytes.now c.type_inv.bytes _ _ _ _ _ c.point_at-a.ensures c.point_at-b.ensures c.point_at-c.ensures c.point_at-d.ensures c.point_at-e.ensures in
+    elim c.if-a-c.branch [
+    | then-a-c w ↦ elim c.if-a-c-2.either [ inl h ↦ cc (level h.1) | inr h ↦ absurd (w.if-a-c.true h) ]
+    | else-a-c w ↦ cc (flat w.if-a-c.false)
+    ]
