@@ -1,11 +1,11 @@
 -- The unit over whole numbers. At exponent 57 the fractions that pass are a range, whose bounds are computed; each exponent more is a factor of 16, and below 57
 -- the largest fraction is too small. Assumes nothing.
-use mathlib.Core.Bool.{Bool, true, false, ◌&&◌}
-use mathlib.Core.Path.{◌≡◌, refl, sym, ap, ◌∙◌}
+use mathlib.Core.Bool.{Bool, false}
+use mathlib.Core.Path.{◌≡◌, sym, ap, ◌∙◌}
 use Prim.Native.Nat.{ℕ, zero, suc, ◌+◌, ◌-◌, ◌*◌, ◌^◌, ◌%◌, ◌≤◌, ◌<◌}
 use Rattle.std.proofs.Common.{Option, Some, None, MatchOption, subst}
 use Rattle.std.specs.Option.{SomeIff}
-use native.Mathlib.Nat.{zero-mul, suc-mul, mul_assoc, mul_comm, mul_left_comm, mul-one, pow-suc, pow-le-pow_right, mul-le-mul_left, mul-lt-mul_of_pos_left, mul-lt-mul_of_pos_right, le-mul_of_pos_right, mod-eq_of_lt, lt_of_le_of_lt, lt_of_lt_of_le}
+use native.Mathlib.Nat.{zero-mul, suc-mul, mul_assoc, mul_left_comm, pow-le-pow_right, mul-le-mul_left, mul-lt-mul_of_pos_left, mul-lt-mul_of_pos_right, mod-eq_of_lt, lt_of_le_of_lt, lt_of_lt_of_le}
 use native.Mathlib.Omega.{arith}
 use lib.Dec.{leb, lit<, lit≤}
 use lib.Pow.{pow-add}

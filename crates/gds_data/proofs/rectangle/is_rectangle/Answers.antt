@@ -19,6 +19,6 @@ returns-else-a-c-2 c =
     let flat = no_width c.args.bytes.now c.type_inv.bytes _ _ _ _ _ c.point_at-a.ensures c.point_at-b.ensures c.point_at-c.ensures c.point_at-d.ensures c.point_at-e.ensures in
     let level = no_height c.args.bytes.now c.type_inv.bytes _ _ _ _ _ c.point_at-a.ensures c.point_at-b.ensures c.point_at-c.ensures c.point_at-d.ensures c.point_at-e.ensures in
     elim c.if-a-c.branch [
-    | then-a-c w ↦ elim c.if-a-c-2.either [ inl h ↦ cc (level h.1) | inr h ↦ absurd (w.if-a-c.true h) ]
-    | else-a-c w ↦ cc (flat w.if-a-c.false)
+      | then-a-c w ↦ elim c.if-a-c-2.either [ inl h ↦ cc (level h.1) | inr h ↦ absurd (w.if-a-c.true h) ]
+      | else-a-c w ↦ cc (flat w.if-a-c.false)
     ]

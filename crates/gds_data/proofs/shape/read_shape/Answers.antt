@@ -1,25 +1,13 @@
 -- `read_shape`: digits to the last one state a shape. Assumes nothing.
 use mathlib.Core.Path.{sym, ◌∙◌}
-use lib.Seq.{length-take-le}
 use Rattle.gds_data.specs.Shapes.{shape_of}
-use Rattle.gds_data.proofs.ShapeLaws.{shape_bad, shape_part, shape_whole}
+use Rattle.gds_data.proofs.ShapeLaws.{no_numeral, shape_told}
 use Rattle.gds_data.proofs.shape.read_shape.Goals as goal
 
-pub slice_bounds-read_numeral-end : goal.slice_bounds-read_numeral-end
-slice_bounds-read_numeral-end c = sym (length-take-le _ _ c.digits_in-n.ensures.upper_bound)
-
-pub returns-then-digits-n : goal.returns-then-digits-n
+pub returns-in_err-numeral : goal.returns-in_err-numeral
 unfolding shape_of
-returns-then-digits-n c =
-    let all = sym (length-take-le _ _ c.digits_in-n.ensures.upper_bound) in
-    rw (← c.digits_in-n.ensures.bytes_value) (shape_whole _ _ _ (sym c.in-Number.is ∙ c.read_numeral.ensures) (c.if-digits-n.true ∙ all))
+returns-in_err-numeral c = rw (c.from_residual.ensures, ← c.unfilled-digits.ensures) (no_numeral _ (sym c.read_numeral.ensures ∙ c.in_err-numeral.was))
 
-pub returns-else-digits-n : goal.returns-else-digits-n
+pub returns : goal.returns
 unfolding shape_of
-returns-else-digits-n c =
-    let all = length-take-le _ _ c.digits_in-n.ensures.upper_bound in
-    rw (← c.digits_in-n.ensures.bytes_value) (shape_part _ _ _ (sym c.in-Number.is ∙ c.read_numeral.ensures) λ e. c.if-digits-n.false (e ∙ all))
-
-pub returns-in-Bad : goal.returns-in-Bad
-unfolding shape_of
-returns-in-Bad c = rw (← c.digits_in-n.ensures.bytes_value) (shape_bad _ (sym c.in-Bad.is ∙ c.read_numeral.ensures))
+returns c = rw (c.then_some.ensures, ← c.unfilled-digits.ensures) (shape_told _ _ (sym c.read_numeral.ensures ∙ c.in_ok-numeral.was))

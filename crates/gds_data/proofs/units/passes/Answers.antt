@@ -1,6 +1,6 @@
 -- `passes`: the fraction times the factor, where neither leaves 64 bits. Assumes nothing.
-use Rattle.std.proofs.Common.{rules, Option, Some, None, MatchOption, subst, sym}
-use Rattle.gds_data.proofs.UnitLaws.{scaled_in_range, passing}
+use Rattle.std.proofs.Common.{rules}
+use Rattle.gds_data.proofs.UnitLaws.{scaled_in_range}
 use Rattle.gds_data.proofs.units.passes.Goals as goal
 
 pub returns : goal.returns
