@@ -9,7 +9,7 @@ use Prim.Native.Nat.{ℕ, ◌+◌, ◌*◌, ◌/◌, ◌%◌, ◌≤◌, ◌<◌
 use native.Mathlib.Decide.{dec_lt, dec_le, ℕ_discrete}
 use native.Mathlib.Omega.{arith}
 use lib.Dec.{eqb, ltb}
-use lib.ListN.{replicate}
+use lib.ListN.{replicate, length}
 use borrow.Author.Tests.{eq-eqb, ne_eqb, eqb-true, lt-ltb, le-ltb}
 use Rattle.bitset.specs.Bits.{member, has_edge}
 use Rattle.bitset.proofs.Sets.{member_none}
@@ -19,10 +19,9 @@ use Rattle.rules.specs.Basics.{given}
 use Rattle.rules.specs.Settings.{piece_at}
 use Rattle.rules.specs.Edges.{conflict_edge, stitch_edge, tied, graph_of}
 use Rattle.rules.specs.Questions.{Valid}
-use Rattle.layout.specs.Flat.{piece_of, pieces_of}
 use Rattle.adjacency.specs.Adjacency.{conflict_of, stitch_of, tie_of, is_pair, in_row, RowTo, Holds, Adjacency, Ties, BothWays}
 use Rattle.rules.proofs.Edges.{undirected, no_self_conflict, no_self_stitch, no_self_tie}
-use Rattle.layout.proofs.PieceLaws.{piece_of_lem, valid_flat}
+use Rattle.rules.proofs.Validity.{valid_sound}
 use Rattle.rules.proofs.Tests.{and_left, and_right, or_either, same, same_where, ltb_next}
 
 -- ---- a pair, by its lesser and its greater number
@@ -78,6 +77,16 @@ module _ (edge : ℕ → ℕ → Bool) (symmetric : (a b : ℕ) → edge a b ≡
         ∙ ap (λ (x : Bool). has_edge before a b || x) (sym (and-or_distrib_left (edge a b) (in_row i j a b) (is_pair i j a b))));
   }
 
+  -- which the two are, or are not
+  pub row_joined : {i j : ℕ} {before words after : List ℕ} → i ≤ j → edge i j ≡ true → RowTo edge i j before words
+      → ((a b : ℕ) → b < 512 → has_edge after a b ≡ (has_edge words a b || (eqb a i && eqb b j) || (eqb a j && eqb b i)))
+      → RowTo edge (i + 1) j before after
+  row_joined {i} {j} {words = words} l e row join =
+      row_more i j true l (sym e) row (λ a b h. join a b h ∙ or_assoc (has_edge words a b) (eqb a i && eqb b j) (eqb a j && eqb b i))
+
+  pub row_kept : {i j : ℕ} {before words : List ℕ} → i ≤ j → edge i j ≡ false → RowTo edge i j before words → RowTo edge (i + 1) j before words
+  row_kept {i} {j} {words = words} l e row = row_more i j false l (sym e) row (λ a b h. sym (or-false (has_edge words a b)))
+
 -- ---- rows
 
 -- the words after the rows below n
@@ -107,43 +116,34 @@ pub given_test : (b : Bool) → ltb 0 (given b 1) ≡ b
 given_test true = refl
 given_test false = refl
 
--- rows of a test without loops that agrees with the graph's edges between numbers below n
-pub rows_hold : (edge : ℕ → ℕ → Bool) (joins : ℕ → ℕ → Bool) (n : ℕ) {words : List ℕ}
-    → ((a b : ℕ) → a < n → b < n → edge a b ≡ joins a b) → ((a : ℕ) → a < n → joins a a ≡ false)
-    → Rows edge n words → Holds (λ a b. given (joins a b) 1) n words
-rows_hold edge joins n {words} agree loops rows = record { bits = λ a b h. rows.bits a b h ∙ go a b (dec_lt a n) (dec_lt b n) (ℕ_discrete a b) }
+-- rows of a test without loops
+pub rows_hold : (joins : ℕ → ℕ → Bool) (n : ℕ) {words : List ℕ} → ((a : ℕ) → a < n → joins a a ≡ false)
+    → Rows joins n words → Holds (λ a b. given (joins a b) 1) n words
+rows_hold joins n {words} loops rows = record { bits = λ a b h. rows.bits a b h ∙ go a b (dec_lt a n) (dec_lt b n) (ℕ_discrete a b) }
   where
     go : (a b : ℕ) → Dec (a < n) → Dec (b < n) → Dec (a ≡ b)
-        → (edge a b && (ltb (min a b) (max a b) && ltb (max a b) n)) ≡ (ltb a n && ltb b n && ltb 0 (given (joins a b) 1))
-    go a b (yes l) (yes m) (yes e) = rw (agree a b l m, lt-ltb a n l, lt-ltb b n m, given_test (joins a b), e, loops b m)
+        → (joins a b && (ltb (min a b) (max a b) && ltb (max a b) n)) ≡ (ltb a n && ltb b n && ltb 0 (given (joins a b) 1))
+    go a b (yes l) (yes m) (yes e) = rw (lt-ltb a n l, lt-ltb b n m, given_test (joins a b), e, loops b m)
     go a b (yes l) (yes m) (no e) =
-        rw (agree a b l m, lt-ltb a n l, lt-ltb b n m, given_test (joins a b), lt-ltb (min a b) (max a b) (omega arith), lt-ltb (max a b) n (omega arith)) (and-true (joins a b))
+        rw (lt-ltb a n l, lt-ltb b n m, given_test (joins a b), lt-ltb (min a b) (max a b) (omega arith), lt-ltb (max a b) n (omega arith)) (and-true (joins a b))
     go a b (yes l) (no m) d =
-        rw (lt-ltb a n l, le-ltb b n (omega arith), le-ltb (max a b) n (omega arith), and-false (ltb (min a b) (max a b))) (and-false (edge a b))
+        rw (lt-ltb a n l, le-ltb b n (omega arith), le-ltb (max a b) n (omega arith), and-false (ltb (min a b) (max a b))) (and-false (joins a b))
     go a b (no l) k d =
-        rw (le-ltb a n (omega arith), le-ltb (max a b) n (omega arith), and-false (ltb (min a b) (max a b))) (and-false (edge a b))
+        rw (le-ltb a n (omega arith), le-ltb (max a b) n (omega arith), and-false (ltb (min a b) (max a b))) (and-false (joins a b))
 
--- the rows of a judged layer's pieces, as numbers: no piece is joined to itself
-module _ (s : Settings) (flat : List ℕ) (n : ℕ) (valid : Valid s (pieces_of flat n)) where
-  abbrev ps : List Piece
-  ps = pieces_of flat n
-
-  same_pieces : {A : Type 0} (f : Piece → Piece → A) (a b : ℕ) → a < n → b < n → f (piece_of flat a) (piece_of flat b) ≡ f (piece_at ps a) (piece_at ps b)
-  same_pieces f a b h k = rw (piece_of_lem flat n a h, piece_of_lem flat n b k)
-
-  pub rows_adjacency : {conflictWords stitchWords : List ℕ} → Rows (conflict_of s flat) n conflictWords → Rows (stitch_of s flat) n stitchWords → Adjacency s ps n conflictWords stitchWords
+-- the rows of a judged layer's pieces: no piece is joined to itself
+module _ (s : Settings) (ps : List Piece) (valid : Valid s ps) where
+  pub rows_adjacency : {conflictWords stitchWords : List ℕ} → Rows (conflict_of s ps) (length ps) conflictWords → Rows (stitch_of s ps) (length ps) stitchWords
+      → Adjacency s ps (length ps) conflictWords stitchWords
   rows_adjacency conflicts stitches =
-      let f = valid_flat s flat n valid in
+      let f = valid_sound s ps valid in
       record {
-        conflicts = rows_hold _ (λ a b. conflict_edge s (piece_at ps a) (piece_at ps b)) n (same_pieces (conflict_edge s)) (λ a h. no_self_conflict s (piece_at ps a)) conflicts;
-        stitches = rows_hold _ (λ a b. stitch_edge s (piece_at ps a) (piece_at ps b)) n (same_pieces (stitch_edge s))
-            (λ a h. rw (piece_of_lem flat n a h) (no_self_stitch s (piece_of flat a) f.settings (f.areas a h))) stitches;
+        conflicts = rows_hold _ (length ps) (λ a h. no_self_conflict s (piece_at ps a)) conflicts;
+        stitches = rows_hold _ (length ps) (λ a h. no_self_stitch s (piece_at ps a) f.settings (f.areas a h)) stitches;
       }
 
-  pub rows_ties : {words : List ℕ} → Rows (tie_of s flat) n words → Ties s ps n words
-  rows_ties rows =
-      rows_hold _ (λ a b. tied s (piece_at ps a) (piece_at ps b)) n (same_pieces (tied s))
-      (λ a h. rw (piece_of_lem flat n a h) (no_self_tie s (piece_of flat a) ((valid_flat s flat n valid).areas a h))) rows
+  pub rows_ties : {words : List ℕ} → Rows (tie_of s ps) (length ps) words → Ties s ps (length ps) words
+  rows_ties rows = rows_hold _ (length ps) (λ a h. no_self_tie s (piece_at ps a) ((valid_sound s ps valid).areas a h)) rows
 
 -- ---- what the words say
 

@@ -11,12 +11,9 @@ use borrow.Author.Tests.{eqb-true, lt-ltb, le-ltb}
 use Rattle.bitset.specs.Bits.{has_edge}
 use Rattle.bitset.proofs.Sets.{member_none}
 use Rattle.rules.specs.declared.layer.Settings.{Settings}
+use Rattle.rules.specs.declared.layer.Piece.{Piece}
 use Rattle.rules.specs.Basics.{given}
-use Rattle.rules.specs.Settings.{piece_at}
-use Rattle.rules.specs.Edges.{tied}
 use Rattle.rules.proofs.Tests.{by_test, ltb_next}
-use Rattle.layout.specs.Flat.{pieces_of}
-use Rattle.layout.proofs.PieceLaws.{piece_of_lem}
 use Rattle.adjacency.specs.Adjacency.{tie_of, in_row, RowTo, Ties}
 use Rattle.adjacency.proofs.AdjacencyLaws.{given_test}
 
@@ -42,12 +39,11 @@ whole_more edge n rows row = record {
 }
 
 -- the words of ties of any pieces
-pub whole_ties : (s : Settings) (flat : List ℕ) (n : ℕ) {words : List ℕ} → WholeRows (tie_of s flat) n words → Ties s (pieces_of flat n) n words
-whole_ties s flat n rows = record { bits = λ a b h. rows.bits a b h ∙ go a b (dec_lt a n) (dec_lt b n) }
+pub whole_ties : (s : Settings) (ps : List Piece) (n : ℕ) {words : List ℕ} → WholeRows (tie_of s ps) n words → Ties s ps n words
+whole_ties s ps n rows = record { bits = λ a b h. rows.bits a b h ∙ go a b (dec_lt a n) (dec_lt b n) }
   where
     go : (a b : ℕ) → Dec (a < n) → Dec (b < n)
-        → (tie_of s flat a b && ltb (max a b) n) ≡ (ltb a n && ltb b n && ltb 0 (given (tied s (piece_at (pieces_of flat n) a) (piece_at (pieces_of flat n) b)) 1))
-    go a b (yes l) (yes m) =
-        rw (lt-ltb a n l, lt-ltb b n m, lt-ltb (max a b) n (omega arith), piece_of_lem flat n a l, piece_of_lem flat n b m, given_test (tie_of s flat a b)) (and-true (tie_of s flat a b))
-    go a b (yes l) (no m) = rw (lt-ltb a n l, le-ltb b n (omega arith), le-ltb (max a b) n (omega arith)) (and-false (tie_of s flat a b))
-    go a b (no l) m = rw (le-ltb a n (omega arith), le-ltb (max a b) n (omega arith)) (and-false (tie_of s flat a b))
+        → (tie_of s ps a b && ltb (max a b) n) ≡ (ltb a n && ltb b n && ltb 0 (given (tie_of s ps a b) 1))
+    go a b (yes l) (yes m) = rw (lt-ltb a n l, lt-ltb b n m, lt-ltb (max a b) n (omega arith), given_test (tie_of s ps a b)) (and-true (tie_of s ps a b))
+    go a b (yes l) (no m) = rw (lt-ltb a n l, le-ltb b n (omega arith), le-ltb (max a b) n (omega arith)) (and-false (tie_of s ps a b))
+    go a b (no l) m = rw (le-ltb a n (omega arith), le-ltb (max a b) n (omega arith)) (and-false (tie_of s ps a b))

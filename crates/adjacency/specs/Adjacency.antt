@@ -5,19 +5,19 @@ use Rattle.bitset.specs.Bits.{has_edge}
 use Rattle.rules.specs.declared.layer.Settings.{Settings}
 use Rattle.rules.specs.declared.layer.Piece.{Piece}
 use Rattle.rules.specs.Basics.{given}
+use Rattle.rules.specs.Settings.{piece_at}
 use Rattle.rules.specs.Edges.{conflict_edge, stitch_edge, tied, Graph, graph_of}
 use Rattle.rules.specs.Units.{tie_graph}
-use Rattle.layout.specs.Flat.{piece_of}
 
 -- whether pieces a and b are joined by a conflict edge, by a stitch edge, and by a tie
-abbrev pub conflict_of : Settings → List ℕ → ℕ → ℕ → Bool
-conflict_of s flat a b = conflict_edge s (piece_of flat a) (piece_of flat b)
+abbrev pub conflict_of : Settings → List Piece → ℕ → ℕ → Bool
+conflict_of s ps a b = conflict_edge s (piece_at ps a) (piece_at ps b)
 
-abbrev pub stitch_of : Settings → List ℕ → ℕ → ℕ → Bool
-stitch_of s flat a b = stitch_edge s (piece_of flat a) (piece_of flat b)
+abbrev pub stitch_of : Settings → List Piece → ℕ → ℕ → Bool
+stitch_of s ps a b = stitch_edge s (piece_at ps a) (piece_at ps b)
 
-abbrev pub tie_of : Settings → List ℕ → ℕ → ℕ → Bool
-tie_of s flat a b = tied s (piece_of flat a) (piece_of flat b)
+abbrev pub tie_of : Settings → List Piece → ℕ → ℕ → Bool
+tie_of s ps a b = tied s (piece_at ps a) (piece_at ps b)
 
 -- a and b are i and j, either way
 abbrev pub is_pair : ℕ → ℕ → ℕ → ℕ → Bool

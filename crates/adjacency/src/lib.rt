@@ -2,12 +2,10 @@
 // of pieces; and the words of ties alone, of any pieces. Units, scoring, peeling and the search stand on these.
 #![tactic(auto)]
 
-mod kinds;
+mod edge_sets;
 mod reach;
 mod ties;
-mod words;
 
-pub use kinds::{is_some, is_tie};
-pub use reach::{Reach, edge_in_reach, reach_of};
+pub use edge_sets::{EdgeSets, adjacency_words};
+pub use reach::Reach;
 pub use ties::tie_words;
-pub use words::{adjacency_words, join_where};

@@ -1,61 +1,74 @@
 // The edges between one piece and many. Most pairs are too far apart for an edge, and one comparison tells them: it adds to and subtracts from numbers that are
 // made once for the piece.
-ghost use Rattle.std.specs.Prelude.{true, ◌≡◌, ◌≤◌};
+ghost use Rattle.std.specs.Prelude.{true, ◌≡◌, ◌+◌, ◌-◌, ◌≤◌};
 ghost use Rattle.rules.specs.Settings.{settings_in_range, piece_in_range};
-ghost use Rattle.rules.specs.Edges.{edge_of};
-ghost use Rattle.adjacency.specs.Reaches.{reach_of, in_reach};
 
-use edges::{judged_edge, lesser};
+use edges::judged_edge;
 use rules::{Edge, Piece, Settings};
 
-// Where the reach of a piece ends, the spacing away from it: in X the left end, negated, and the right end, in Y the lower end, negated, and the upper end. To each
+// A piece, and where its reach ends, the spacing away from it: in X the left end, negated, and the right end, in Y the lower end, negated, and the upper end. To each
 // 1,000,000 is added, so that none is negative.
 #[derive(Clone, Copy)]
 pub struct Reach {
-    pub left: u32,
-    pub right: u32,
-    pub below: u32,
-    pub above: u32,
+    pub settings: Settings,
+    pub piece: Piece,
+    left: u32,
+    right: u32,
+    below: u32,
+    above: u32,
+    ghost spacing_bound: { settings.spacing ≤ 100000 },
+    ghost piece_value: { piece_in_range piece ≡ true },
+    ghost left_value: { left ≡ 1000000 + settings.spacing - piece.x1 },
+    ghost right_value: { right ≡ 1000000 + settings.spacing + piece.x2 },
+    ghost below_value: { below ≡ 1000000 + settings.spacing - piece.y1 },
+    ghost above_value: { above ≡ 1000000 + settings.spacing + piece.y2 },
 }
 
-// The reach of a piece.
-pub fn reach_of(spacing: u32, p: Piece) -> Reach
-    requires spacing_bound { spacing ≤ 100000 }
-    requires p_value { piece_in_range p ≡ true }
-    ensures { result ≡ reach_of spacing p }
-{
-    Reach {
-        left: 1_000_000 + spacing - p.x1,
-        right: 1_000_000 + spacing + p.x2,
-        below: 1_000_000 + spacing - p.y1,
-        above: 1_000_000 + spacing + p.y2,
+impl Reach {
+    ghost use Rattle.rules.specs.Edges.{edge_of};
+    ghost use Rattle.adjacency.specs.Reaches.{in_reach};
+
+    // The reach of a piece.
+    #[tactic(auto, using(rules::proofs::Ranges::piece_facts))]
+    pub fn of(settings: Settings, piece: Piece) -> Reach
+        requires spacing_bound { settings.spacing ≤ 100000 }
+        requires piece_value { piece_in_range piece ≡ true }
+        ensures settings { result.settings ≡ settings }
+        ensures piece { result.piece ≡ piece }
+    {
+        let base = 1_000_000 + settings.spacing;
+        Reach {
+            settings,
+            piece,
+            left: base - piece.x1,
+            right: base + piece.x2,
+            below: base - piece.y1,
+            above: base + piece.y2,
+        }
     }
-}
 
-// Whether a piece comes into the reach of another one on all sides.
-fn in_reach(reach: Reach, q: Piece) -> bool
-    requires left_bound { reach.left ≤ 1100000 }
-    requires le_right { 1000000 ≤ reach.right }
-    requires below_bound { reach.below ≤ 1100000 }
-    requires le_above { 1000000 ≤ reach.above }
-    requires q_value { piece_in_range q ≡ true }
-    ensures { result ≡ in_reach reach q }
-{
-    let x = lesser(reach.left + q.x2, reach.right - q.x1);
-    let y = lesser(reach.below + q.y2, reach.above - q.y1);
-    1_000_000 < lesser(x, y)
-}
-
-// The edge between two pieces that are judged, by the reach of the second.
-pub fn edge_in_reach(settings: Settings, q: Piece, p: Piece, reach: Reach) -> Edge
-    requires settings_value { settings_in_range settings ≡ true }
-    requires q_value { piece_in_range q ≡ true }
-    requires p_value { piece_in_range p ≡ true }
-    requires reach_value { reach ≡ reach_of settings.spacing p }
-    ensures { result ≡ edge_of settings q p }
-{
-    if !in_reach(reach, q) {
-        return Edge::None;
+    // Whether another piece comes into it on all sides.
+    #[tactic(auto, using(rules::proofs::Ranges::piece_facts))]
+    fn has(&self, other: Piece) -> bool
+        requires { piece_in_range other ≡ true }
+        ensures { result ≡ in_reach self.now other }
+    {
+        let x = (self.left + other.x2).min(self.right - other.x1);
+        let y = (self.below + other.y2).min(self.above - other.y1);
+        1_000_000 < x.min(y)
     }
-    judged_edge(settings, q, p)
+
+    // The edge between another piece that is judged and this one.
+    #[tactic(auto, using(crate::proofs::ReachLaws::out_of_reach))]
+    pub fn edge_from(&self, other: Piece) -> Edge
+        requires settings_value { settings_in_range self.now.settings ≡ true }
+        requires other_value { piece_in_range other ≡ true }
+        ensures { result ≡ edge_of self.now.settings other self.now.piece }
+    {
+        if self.has(other) {
+            judged_edge(self.settings, other, self.piece)
+        } else {
+            Edge::None
+        }
+    }
 }

@@ -1,29 +1,20 @@
-use mathlib.Core.Path.{◌≡◌, ap₂, ◌∙◌}
-use Prim.Native.Nat.{◌+◌}
-use native.Mathlib.Omega.{arith}
-use Rattle.rules.specs.Edges.{tied}
+use Rattle.std.proofs.Common.{◌≡◌, ◌+◌, ◌≤◌, sym, ◌∙◌, arith}
+use lib.Seq.{get_or-take, length-take-le}
+use Rattle.rules.specs.Settings.{no_piece}
 use Rattle.rules.proofs.Edges.{tie_sym}
 use Rattle.adjacency.specs.Adjacency.{tie_of}
-use Rattle.adjacency.proofs.AdjacencyLaws.{row_none, row_more}
+use Rattle.adjacency.proofs.AdjacencyLaws.{row_joined, row_kept}
 use Rattle.adjacency.proofs.ties.tie_row.Goals as goal
-
-pub piece_at-p-requires : goal.piece_at-p-requires
-piece_at-p-requires c = c.requires
-
-pub loop-i-init : goal.loop-i-init
-loop-i-init c = (omega arith, row_none _ (λ a b. tie_sym _ _ _) _ _)
+use Rattle.adjacency.proofs.ties.tie_row.Goals.{then-tie, else-tie}
 
 pub loop-i-preserved : goal.loop-i-preserved
 loop-i-preserved c =
-    let a = c.args in
-    let s = a.settings in
-    let same : c.tie.result ≡ tie_of s a.flat.now c.loop-i.i a.j = c.tie.ensures ∙ ap₂ (tied s) c.piece_at.ensures c.piece_at-p.ensures in (
-      omega arith,
-      row_more (tie_of s a.flat.now) (λ a b. tie_sym s _ _) c.loop-i.i a.j c.tie.result (omega arith) same c.loop-i.invariant.1 c.join_where.ensures,
-    )
-
-pub returns : goal.returns
-returns c =
-    let at = c.loop-i in
-    let e : at.i ≡ c.args.j + 1 = omega arith in
-    rw e at at.invariant.1
+    let s = c.args.settings in
+    let ps = c.args.pieces.now in
+    let i = c.loop-i.i in
+    let low : i ≤ c.args.j = omega (arith, length-take-le (c.args.j + 1) ps (omega arith)) in
+    let tested : tie_of s ps i c.args.j ≡ c.tie.result = sym (rw (get_or-take (c.args.j + 1) ps i no_piece (omega arith)) at c.tie.ensures) in
+    elim c.if-tie.branch [
+      | then-tie w ↦ rw w.ties-is (row_joined _ (λ a b. tie_sym s _ _) low (tested ∙ w.if-tie.true) c.loop-i.invariant w.join.ensures)
+      | else-tie w ↦ rw w.ties-is (row_kept _ (λ a b. tie_sym s _ _) low (tested ∙ w.if-tie.false) c.loop-i.invariant)
+    ]

@@ -1,0 +1,30 @@
+use Rattle.std.proofs.Common.{◌≡◌, length, arith}
+use Rattle.rules.proofs.Reading.{few}
+use Rattle.rules.proofs.Validity.{valid_sound}
+use Rattle.adjacency.proofs.AdjacencyLaws.{rows_none, rows_more, rows_adjacency, rows_ties}
+use Rattle.adjacency.proofs.edge_sets.adjacency_words.Goals as goal
+
+pub loop-j-init : goal.loop-j-init
+loop-j-init c = record {
+  conflicts = rows_none _ c.clear.ensures;
+  stitches = rows_none _ c.clear-2.ensures;
+  ties = rows_none _ c.clear-3.ensures;
+}
+
+pub adjacency_row-requires : goal.adjacency_row-requires
+adjacency_row-requires c =
+    let f = valid_sound _ _ c.requires in
+    record {
+      j_bound = c.loop-j-test.true;
+      few = few _ f.count;
+      settings_value = f.settings;
+      by_index = λ i h. f.ranges i (omega arith);
+    }
+
+pub returns : goal.returns
+returns c =
+    let e : c.loop-j.j ≡ length c.args.pieces.now = omega arith in
+    record {
+      adjacency = rows_adjacency _ _ c.requires (rw e at c.loop-j.invariant.conflicts) (rw e at c.loop-j.invariant.stitches);
+      ties = rows_ties _ _ c.requires (rw e at c.loop-j.invariant.ties);
+    }

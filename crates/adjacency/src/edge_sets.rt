@@ -1,0 +1,89 @@
+// The adjacency words of a judged layer: a bit for each pair of pieces, in words for each kind of edge and for ties. Each unordered pair
+// is met once, from its greater number, and both of its bits are set.
+ghost use Rattle.std.specs.Prelude.{true, ◌&&◌, ◌||◌, ◌≡◌, ℕ, ◌<◌, ◌≤◌, length, replicate};
+ghost use Rattle.bitset.specs.Bits.{has_edge};
+ghost use Rattle.rules.specs.Settings.{settings_in_range, piece_in_range, piece_at};
+ghost use Rattle.rules.specs.Questions.{Valid};
+ghost use Rattle.adjacency.specs.Adjacency.{conflict_of, stitch_of, tie_of, is_pair, RowTo, Adjacency, Ties};
+ghost use Rattle.adjacency.specs.Kinds.{is_conflict, is_stitch, is_tie};
+
+use crate::reach::Reach;
+use bitset::Matrix;
+use rules::{Edge, Piece, Settings};
+
+// The edges of both kinds.
+#[derive(Drop)]
+pub struct EdgeSets {
+    pub conflicts: Matrix,
+    pub stitches: Matrix,
+}
+
+impl EdgeSets {
+    // No edge of either kind.
+    pub fn empty() -> EdgeSets
+        ensures { result ≡ record { conflicts = replicate 4096 0; stitches = replicate 4096 0 } }
+    {
+        EdgeSets {
+            conflicts: Matrix::empty(),
+            stitches: Matrix::empty(),
+        }
+    }
+}
+
+// Joins i and j in the words of what was found between them.
+fn join_by(edge: Edge, i: usize, j: usize, edges: &mut EdgeSets, ties: &mut Matrix)
+    requires i_bound { i < 512 }
+    requires j_bound { j < 512 }
+    ensures by_index { (a b : ℕ) → b < 512 → has_edge edges.new.conflicts a b ≡ (has_edge edges.old.conflicts a b || (is_conflict edge && is_pair i j a b)) }
+    ensures by_index_2 { (a b : ℕ) → b < 512 → has_edge edges.new.stitches a b ≡ (has_edge edges.old.stitches a b || (is_stitch edge && is_pair i j a b)) }
+    ensures by_index_3 { (a b : ℕ) → b < 512 → has_edge ties.new a b ≡ (has_edge ties.old a b || (is_tie edge && is_pair i j a b)) }
+{
+    match edge {
+        Edge::Conflict => edges.conflicts.join(i, j),
+        Edge::Stitch => edges.stitches.join(i, j),
+        Edge::Tie => ties.join(i, j),
+        Edge::None => {}
+    }
+}
+
+// Adds the edges and ties between piece j and the pieces before it.
+#[tactic(auto, using(rules::proofs::Ranges::settings_facts))]
+fn adjacency_row(
+    settings: Settings,
+    pieces: &[Piece],
+    j: usize,
+    edges: &mut EdgeSets,
+    ties: &mut Matrix,
+)
+    requires j_bound { j < length pieces.now }
+    requires few { length pieces.now ≤ 512 }
+    requires settings_value { settings_in_range settings ≡ true }
+    requires by_index { (i : ℕ) → i ≤ j → piece_in_range (piece_at pieces.now i) ≡ true }
+    ensures row_to { RowTo (conflict_of settings pieces.now) j j edges.old.conflicts edges.new.conflicts }
+    ensures row_to_2 { RowTo (stitch_of settings pieces.now) j j edges.old.stitches edges.new.stitches }
+    ensures row_to_3 { RowTo (tie_of settings pieces.now) j j ties.old ties.new }
+{
+    let reach = Reach::of(settings, pieces[j]);
+    for (i, earlier) in pieces[..j].iter().enumerate() {
+        join_by(reach.edge_from(*earlier), i, j, edges, ties);
+    }
+}
+
+// Fills the words of edges and ties, whatever was in them.
+pub fn adjacency_words(
+    settings: Settings,
+    pieces: &[Piece],
+    edges: &mut EdgeSets,
+    ties: &mut Matrix,
+)
+    requires { Valid settings pieces.now }
+    ensures adjacency { Adjacency settings pieces.now (length pieces.now) edges.new.conflicts edges.new.stitches }
+    ensures ties { Ties settings pieces.now (length pieces.now) ties.new }
+{
+    edges.conflicts.clear();
+    edges.stitches.clear();
+    ties.clear();
+    for j in 0..pieces.len() {
+        adjacency_row(settings, pieces, j, edges, ties);
+    }
+}
