@@ -1,6 +1,5 @@
 -- `test_pairs`. The invariant: what the pairs of the pieces before j come to. Assumes nothing.
 use mathlib.Core.Path.{◌≡◌}
-use Prim.Native.Nat.{◌≤◌, ◌-◌}
 use Rattle.rules.specs.Basics.{sum_pairs}
 use Rattle.adjacency.specs.Adjacency.{tie_of}
 use Rattle.pair_tests.specs.PairTests.{conflict_at, stitch_at}
@@ -8,11 +7,9 @@ use Rattle.adjacency.proofs.AdjacencyLaws.{Rows}
 use Rattle.pair_tests.proofs.test_pairs.Given as goal
 
 abbrev pub invariant-loop-j : goal.invariant-loop-j
-invariant-loop-j l = (l.j ≤ l.n)
-    × (l.tested ≡ sum_pairs (λ u v. 1) l.j)
-    × (l.conflicts ≡ sum_pairs (conflict_at l.settings l.flat l.masks) l.j)
-    × (l.stitches ≡ sum_pairs (stitch_at l.settings l.flat l.masks) l.j)
-    × Rows (tie_of l.settings l.flat) l.j l.ties
-
-abbrev pub decreases-loop-j : goal.decreases-loop-j
-decreases-loop-j l = l.n - l.j
+invariant-loop-j l = record {
+  tested : l.tally.tested ≡ sum_pairs (λ u v. 1) l.j;
+  conflicts : l.tally.conflicts ≡ sum_pairs (conflict_at l.fn.settings l.fn.pieces l.fn.masks) l.j;
+  stitches : l.tally.stitches ≡ sum_pairs (stitch_at l.fn.settings l.fn.pieces l.fn.masks) l.j;
+  ties : Rows (tie_of l.fn.settings l.fn.pieces) l.j l.ties;
+}

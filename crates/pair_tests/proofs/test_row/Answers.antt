@@ -1,98 +1,86 @@
-use mathlib.Core.Path.{◌≡◌, refl}
-use Prim.Native.Nat.{◌+◌, ◌≤◌}
+use mathlib.Core.Bool.{false}
+use mathlib.Core.Path.{◌≡◌, refl, sym, ap, ◌∙◌}
+use Prim.Native.Nat.{◌<◌}
 use native.Mathlib.Omega.{arith}
+use lib.Seq.{get_or-take, length-take-le}
+use Rattle.rules.specs.declared.layer.Edge.{Edge}
 use Rattle.rules.specs.Basics.{sum_to}
 use Rattle.rules.specs.Edges.{edge_of}
-use Rattle.layout.specs.Flat.{piece_of}
+use Rattle.rules.specs.Settings.{piece_at, no_piece}
+use Rattle.rules.proofs.Edges.{tie_sym}
+use Rattle.rules.proofs.Sums.{sum_more, sum_le}
+use Rattle.adjacency.specs.Adjacency.{tie_of}
 use Rattle.adjacency.specs.Kinds.{is_tie}
 use Rattle.adjacency.proofs.KindLaws.{tie_kind}
-use Rattle.adjacency.specs.Adjacency.{tie_of}
+use Rattle.adjacency.proofs.AdjacencyLaws.{row_none, row_joined, row_kept}
 use Rattle.pair_tests.specs.PairTests.{conflict_at, stitch_at}
-use Rattle.rules.proofs.Edges.{tie_sym}
-use Rattle.rules.proofs.Ranges.{settings_facts}
-use Rattle.rules.proofs.Sums.{sum_more, sum_le}
-use Rattle.adjacency.proofs.AdjacencyLaws.{row_none, row_more}
 use Rattle.pair_tests.proofs.PairLaws.{conflict_le, stitch_le}
 use Rattle.pair_tests.proofs.test_row.Goals as goal
-use Rattle.pair_tests.proofs.test_row.Goals.{After-edge_in_reach-edge}
-
-pub piece_at-p-requires : goal.piece_at-p-requires
-piece_at-p-requires c = c.requires.j_bound
-
-pub reach_of-reach-requires : goal.reach_of-reach-requires
-reach_of-reach-requires c =
-    record {
-      spacing_bound = (settings_facts _ c.requires.settings_value).spacing.high;
-      p_value = rw c.piece_at-p.ensures (c.requires.by_index _ (omega arith));
-    }
+use Rattle.pair_tests.proofs.test_row.Goals.{After-edge_from-edge, in-Tie, in_default}
 
 pub loop-i-init : goal.loop-i-init
 unfolding sum_to
-loop-i-init c = (omega arith, refl, refl, refl, row_none _ (λ a b. tie_sym _ _ _) _ _)
+loop-i-init c = rw c.none-tally.ensures (record { tested = refl; conflicts = refl; stitches = refl; ties = row_none _ (λ a b. tie_sym _ _ _) _ _ })
 
-pub edge_in_reach-edge-requires : goal.edge_in_reach-edge-requires
-edge_in_reach-edge-requires c =
-    record {
-      settings_value = c.requires.settings_value;
-      q_value = rw c.piece_at.ensures (c.requires.by_index _ (omega arith));
-      p_value = rw c.piece_at-p.ensures (c.requires.by_index _ (omega arith));
-      reach_value = c.reach_of-reach.ensures;
-    }
+module _ (c : After-edge_from-edge) where
+  below : c.loop-i.i < c.args.j
+  below = omega (arith, length-take-le c.args.j c.args.pieces.now (omega arith))
 
--- one test more
-tested : (c : After-edge_in_reach-edge) → let at = c.loop-i in (at.tested + 1 ≡ sum_to (λ u. 1) (at.i + 1)) × (at.tested + 1 ≤ at.i + 1)
-tested c =
-    let at = c.loop-i in
-    sum_more (λ u. 1) at.i (λ u. omega arith) at.invariant.1 refl
+  -- the edge that the test found
+  edge : c.edge_from-edge.result ≡ edge_of c.args.settings (piece_at c.args.pieces.now c.loop-i.i) (piece_at c.args.pieces.now c.args.j)
+  edge = rw (get_or-take c.args.j c.args.pieces.now c.loop-i.i no_piece below, c.of-reach.ensures.settings, c.of-reach.ensures.piece) at c.edge_from-edge.ensures
 
--- the edge that it found
-edge : (c : After-edge_in_reach-edge) →
-    let at = c.loop-i in
+  -- the two are tied where it is a tie
+  tied : tie_of c.args.settings c.args.pieces.now c.loop-i.i c.args.j ≡ is_tie c.edge_from-edge.result
+  tied = rw edge (sym (tie_kind c.args.settings _ _))
+
+other : (e : Edge) → (e ≡ Edge.Tie → ⊥) → is_tie e ≡ false
+other Edge.Conflict n = refl
+other Edge.Stitch n = refl
+other Edge.Tie n = absurd (n refl)
+other Edge.None n = refl
+
+pub add-requires : goal.add-requires
+add-requires c =
+    let at = (goal.at.add-requires c).After-edge_from-edge in
     let a = c.args in
-    c.edge_in_reach-edge.result ≡ edge_of a.settings (piece_of a.flat.now at.i) (piece_of a.flat.now a.j)
-edge c = rw (← c.piece_at.ensures, ← c.piece_at-p.ensures) c.edge_in_reach-edge.ensures
-
-pub overflow_add-tested : goal.overflow_add-tested
-overflow_add-tested c = omega (arith, tested (goal.at.overflow_add-tested c).After-edge_in_reach-edge)
-
-pub add_edge-counts-requires : goal.add_edge-counts-requires
-add_edge-counts-requires c =
-    let at = c.loop-i in
-    let a = c.args in
-    let few-conflicts = sum_le (λ u. conflict_at a.settings a.flat.now a.masks.now u a.j) at.i (λ u. conflict_le a.settings a.flat.now a.masks.now u a.j) in
-    let few-stitches = sum_le (λ u. stitch_at a.settings a.flat.now a.masks.now u a.j) at.i (λ u. stitch_le a.settings a.flat.now a.masks.now u a.j) in
+    let i = c.loop-i.i in
+    let low = below at in
+    let conflicts = sum_le (λ u. conflict_at a.settings a.pieces.now a.masks.now u a.j) i (λ u. conflict_le a.settings a.pieces.now a.masks.now u a.j) in
+    let stitches = sum_le (λ u. stitch_at a.settings a.pieces.now a.masks.now u a.j) i (λ u. stitch_le a.settings a.pieces.now a.masks.now u a.j) in
     record {
-      i_lt_j = omega arith;
-      j_bound = c.requires.j_bound;
-      j_in_bounds = c.requires.j_in_bounds;
-      conflicts_bound = omega (arith, at.invariant.2, c.requires.j_bound);
-      stitches_bound = omega (arith, at.invariant.3, c.requires.j_bound);
+      tested_bound = omega (arith, c.loop-i.invariant.tested, sum_le (λ u. 1) i (λ u. omega arith));
+      conflicts_bound = omega (arith, c.loop-i.invariant.conflicts, conflicts);
+      stitches_bound = omega (arith, c.loop-i.invariant.stitches, stitches);
     }
 
 pub loop-i-preserved : goal.loop-i-preserved
 loop-i-preserved c =
-    let at = c.loop-i in
+    let at = (goal.at.loop-i-preserved c).After-edge_from-edge in
     let a = c.args in
     let s = a.settings in
-    let flat = a.flat.now in
+    let ps = a.pieces.now in
     let masks = a.masks.now in
-    let added = c.add_edge-counts.ensures.value in
-    let conflicts = (sum_more (λ u. conflict_at s flat masks u a.j) at.i (λ u. conflict_le s flat masks u a.j) at.invariant.2 refl).0 in
-    let stitches = (sum_more (λ u. stitch_at s flat masks u a.j) at.i (λ u. stitch_le s flat masks u a.j) at.invariant.3 refl).0 in (
-      omega arith,
-      (tested (goal.at.loop-i-preserved c).After-edge_in_reach-edge).0,
-      rw (added, edge (goal.at.loop-i-preserved c).After-edge_in_reach-edge) conflicts,
-      rw (added, edge (goal.at.loop-i-preserved c).After-edge_in_reach-edge) stitches,
-      row_more (tie_of s flat) (λ x y. tie_sym s _ _) at.i a.j (is_tie c.edge_in_reach-edge.result) (omega arith) (rw (edge (goal.at.loop-i-preserved c).After-edge_in_reach-edge) (tie_kind s (piece_of flat at.i) (piece_of flat a.j))) at.invariant.4 c.add_edge-counts.ensures.by_index,
-    )
+    let i = c.loop-i.i in
+    let row = c.loop-i.invariant in
+    rw (c.add.ensures, edge at)
+    (record {
+      tested = (sum_more (λ u. 1) i (λ u. omega arith) row.tested refl).0;
+      conflicts = (sum_more (λ u. conflict_at s ps masks u a.j) i (λ u. conflict_le s ps masks u a.j) row.conflicts refl).0;
+      stitches = (sum_more (λ u. stitch_at s ps masks u a.j) i (λ u. stitch_le s ps masks u a.j) row.stitches refl).0;
+      ties = elim c.match-edge.branch [
+        | in-Tie w ↦ rw w.ties-is (row_joined _ (λ x y. tie_sym s _ _) (omega (arith, below at)) (tied at ∙ ap is_tie w.in-Tie.is) row.ties w.join.ensures)
+        | in_default w ↦ rw w.ties-is (row_kept _ (λ x y. tie_sym s _ _) (omega (arith, below at)) (tied at ∙ other (c.edge_from-edge.result) w.in_default.not-Tie) row.ties)
+      ];
+    })
 
 pub returns : goal.returns
 returns c =
-    let at = c.loop-i in
-    let e : at.i ≡ c.args.j = omega arith in
+    let all = c.loop-i.invariant in
+    let e : c.loop-i.i ≡ c.args.j = omega (arith, length-take-le c.args.j c.args.pieces.now (omega arith)) in
     record {
-      tested_value = rw e at at.invariant.1;
-      conflicts_value = rw e at at.invariant.2;
-      stitches_value = rw e at at.invariant.3;
-      row_to = rw e at at.invariant.4;
+      tested_value = rw e at all.tested;
+      conflicts_value = rw e at all.conflicts;
+      stitches_value = rw e at all.stitches;
+      row_to = rw e at all.ties;
     }

@@ -1,0 +1,42 @@
+// What tests of pairs come to.
+ghost use Rattle.std.specs.Prelude.{◌≡◌, ◌≤◌};
+ghost use Rattle.pair_tests.specs.PairTests.{tally_with};
+
+use counting::{on_one_mask, on_two_masks};
+use rules::Edge;
+
+// How many pairs were tested, and how many conflicts and stitches they have.
+#[derive(Clone, Copy, Debug, PartialEq, Eq)]
+pub struct Tally {
+    pub tested: u32,
+    pub conflicts: u32,
+    pub stitches: u32,
+}
+
+impl Tally {
+    // No test yet.
+    pub fn none() -> Tally
+        ensures { result ≡ record { tested = 0; conflicts = 0; stitches = 0 } }
+    {
+        Tally {
+            tested: 0,
+            conflicts: 0,
+            stitches: 0,
+        }
+    }
+
+    // Counts a test that found this edge between ends with these masks. Most pairs have none, and the masks are not compared then.
+    pub fn add(&mut self, edge: Edge, a: u8, b: u8)
+        requires tested_bound { self.old.tested ≤ 511 }
+        requires conflicts_bound { self.old.conflicts ≤ 511 }
+        requires stitches_bound { self.old.stitches ≤ 511 }
+        ensures { self.new ≡ tally_with self.old edge a b }
+    {
+        self.tested += 1;
+        match edge {
+            Edge::Conflict => self.conflicts += u32::from(on_one_mask(a, b)),
+            Edge::Stitch => self.stitches += u32::from(on_two_masks(a, b)),
+            Edge::Tie | Edge::None => {}
+        }
+    }
+}
