@@ -68,15 +68,6 @@ count_word s w =
     let next : 64 * (w + 1) ≡ 64 * w + 64 = omega arith in
     rw (next, count_add (64 * w) 64 (member s)) (ap (λ (n : ℕ). count_below (64 * w) (member s) + n) (count_ext 64 (member_at s w)))
 
--- ---- the eight words of r are those of the test f
-
-pub member_words : (f : ℕ → Bool) (r : List ℕ) → ((w k : ℕ) → w < 8 → k < 64 → bit (get_or r w 0) k ≡ f (64 * w + k)) → (k : ℕ) → k < 512 → member r k ≡ f k
-member_words f r word k h =
-    let e : 64 * (k / 64) + k % 64 ≡ k = omega arith in
-    let m : member r (64 * (k / 64) + k % 64) ≡ f (64 * (k / 64) + k % 64) =
-    member_at r (k / 64) (k % 64) (omega arith) ∙ word (k / 64) (k % 64) (omega arith) (omega arith)
-    in rw e at m
-
 -- ---- a set with no member: past its last word, and where each word is 0
 
 pub member_past : (s : List ℕ) (k : ℕ) → 64 * length s ≤ k → member s k ≡ false
@@ -90,6 +81,23 @@ member_none n k = go (dec_lt (k / 64) n)
     go : Dec (k / 64 < n) → bit (get_or (replicate n 0) (k / 64) 0) (k % 64) ≡ false
     go (yes l) = rw (get_or-replicate {A = ℕ} n (k / 64) 0 0 l) (bit_of_zero (k % 64))
     go (no m) = member_past (replicate n 0) k (rw (length-replicate {A = ℕ} n 0) (omega arith))
+
+-- ---- the eight words of r are those of the test f
+
+pub member_words : (f : ℕ → Bool) (r : List ℕ) → ((w k : ℕ) → w < 8 → k < 64 → bit (get_or r w 0) k ≡ f (64 * w + k)) → (k : ℕ) → k < 512 → member r k ≡ f k
+member_words f r word k h =
+    let e : 64 * (k / 64) + k % 64 ≡ k = omega arith in
+    let m : member r (64 * (k / 64) + k % 64) ≡ f (64 * (k / 64) + k % 64) =
+    member_at r (k / 64) (k % 64) (omega arith) ∙ word (k / 64) (k % 64) (omega arith) (omega arith)
+    in rw e at m
+
+-- past those words there are no members
+pub member_all : (f : ℕ → Bool) (r : List ℕ) → length r ≡ 8 → ((k : ℕ) → 512 ≤ k → f k ≡ false) → ((k : ℕ) → k < 512 → member r k ≡ f k) → (k : ℕ) → member r k ≡ f k
+member_all f r long none below k = go (dec_lt k 512)
+  where
+    go : Dec (k < 512) → member r k ≡ f k
+    go (yes l) = below k l
+    go (no n) = member_past r k (omega arith) ∙ sym (none k (omega arith))
 
 -- ---- a set after v is stored as its word w
 

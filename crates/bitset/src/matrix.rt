@@ -66,10 +66,11 @@ impl Matrix {
     // The neighbours of i that are in the set.
     pub fn neighbours_in(&self, i: usize, set: &BitSet) -> BitSet
         requires { i < 512 }
-        ensures { (k : ℕ) → k < 512 → member result k ≡ both self.now i set.now k }
+        ensures { (k : ℕ) → member result k ≡ both self.now i set.now k }
     {
+        let others = &set.words;
         BitSet {
-            words: array::from_fn(|w| self.words[8 * i + w] & set.words[w]),
+            words: array::from_fn(|w| self.words[8 * i + w] & others[w]),
         }
     }
 

@@ -3,4 +3,4 @@ use Rattle.bitset.proofs.Counts.{size_same}
 use Rattle.bitset.proofs.matrix.Matrix.degree_in.Goals as goal
 
 pub returns : goal.returns
-returns c = size_same c.neighbours_in.ensures c.len.ensures
+returns c = size_same (λ k h. c.neighbours_in.ensures k) c.len.ensures
