@@ -56,9 +56,9 @@ pub record Taken (s : List ℕ) (r : ℕ) (t : List ℕ) : Type 0 where
   pub first : First (member s) r
   pub out : (k : ℕ) → member t k ≡ (member s k && not (eqb k r))
 
--- an iterator over the members takes the set s to t: it gives the least member and takes it out, or None where there is none
+-- the least member is taken out of the set s, which leaves t: o is that member, or None where there is none
 abbrev pub TakesLeast : List ℕ → Option ℕ → List ℕ → Type 0
-TakesLeast s o t = MatchOption o ((k : ℕ) → k < 512 → member s k ≡ false) (λ r. Taken s r t)
+TakesLeast s o t = MatchOption o (((k : ℕ) → k < 512 → member s k ≡ false) × (t ≡ s)) (λ r. Taken s r t)
 
 -- bit r of the word x is set, and no bit below it is
 pub record LowestSet (x r : ℕ) : Type 0 where

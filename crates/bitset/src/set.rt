@@ -91,6 +91,15 @@ impl BitSet {
         None
     }
 
+    // Takes the least member out, and answers which it was.
+    pub fn take_lowest(&mut self) -> Option<usize>
+        ensures { TakesLeast self.old result self.new }
+    {
+        let i = self.lowest()?;
+        self.take_out(i);
+        Some(i)
+    }
+
     // The members of either set.
     pub fn union(&self, other: &BitSet) -> BitSet
         ensures { (k : ℕ) → k < 512 → member result k ≡ (member self.now k || member other.now k) }
@@ -137,8 +146,6 @@ impl Iterator for Members {
     ghost remaining = { λ s. at_most (count_below 512 (member s)) };
 
     fn next(&mut self) -> Option<usize> {
-        let i = self.rest.lowest()?;
-        self.rest.take_out(i);
-        Some(i)
+        self.rest.take_lowest()
     }
 }

@@ -4,11 +4,11 @@ use mathlib.Core.Bool.{Bool, true, false, not, ◌&&◌, ◌||◌}
 use mathlib.Core.List.{List, ◌∷◌}
 use mathlib.Core.Logic.{◌↔◌, ◌⊎◌}
 use mathlib.Core.Path.{◌≡◌, refl, sym, subst, ◌∙◌}
-use Prim.Native.Nat.{ℕ, suc, ◌≤◌, ◌<◌}
+use Prim.Native.Nat.{ℕ, suc, ◌<◌}
 use native.Mathlib.Omega.{arith}
 use lib.Dec.{eqb}
-use borrow.Author.Tests.{eqb-true, eq-eqb, ne_eqb, not-true}
-use Rattle.bitset.specs.Bits.{member, has_edge, rows_without, count_below, First, Empty}
+use borrow.Author.Tests.{eqb-true, eq-eqb, not-true}
+use Rattle.bitset.specs.Bits.{member, has_edge, rows_without, count_below, Taken, Empty}
 use Rattle.bitset.proofs.Counts.{count_ext, count_in}
 use Rattle.rules.specs.Basics.{without}
 use Rattle.rules.specs.Edges.{joined}
@@ -32,13 +32,6 @@ GrownSets conflicts stitches left v inside frontier = Grown (bounded_graph confl
 module _ (none one : List ℕ) (v : ℕ) (empty : Empty none) (put : (k : ℕ) → member one k ≡ (member none k || eqb k v)) where
   alone : (k : ℕ) → member one k ≡ eqb k v
   alone k = put k ∙ rw (empty.none k)
-
-  pub start_first : v < 512 → First (member one) v
-  start_first l = record {
-    within = omega arith;
-    before = λ k h. alone k ∙ ne_eqb k v (λ e. omega arith);
-    found = λ _. alone v ∙ eq-eqb v v refl;
-  }
 
   pub start_grown : (conflicts stitches left : List ℕ) → v < 512 → member left v ≡ true → GrownSets conflicts stitches left v one one
   start_grown conflicts stitches left l m =
@@ -71,9 +64,7 @@ looked_turn false false false false a b c = refl
 
 -- u no longer waits, and its neighbours are new: they come in, and wait
 pub record Turn (conflicts stitches left inside frontier waiting new insideNow frontierNow : List ℕ) (u : ℕ) : Type 0 where
-  pub small : u < 512
-  pub first : First (member frontier) u
-  pub out : (k : ℕ) → member waiting k ≡ (member frontier k && not (eqb k u))
+  pub taken : Taken frontier u waiting
   pub news : (k : ℕ) → k < 512 → member new k ≡ rows_without conflicts stitches u left inside k
   pub grow : (k : ℕ) → k < 512 → member insideNow k ≡ (member inside k || member new k)
   pub wait : (k : ℕ) → k < 512 → member frontierNow k ≡ (member waiting k || member new k)
@@ -81,7 +72,7 @@ pub record Turn (conflicts stitches left inside frontier waiting new insideNow f
 module _ {conflicts stitches left inside frontier waiting new insideNow frontierNow : List ℕ} {u : ℕ} (v : ℕ)
     (turn : Turn conflicts stitches left inside frontier waiting new insideNow frontierNow u) (old : GrownSets conflicts stitches left v inside frontier) where
   here_now : member frontier u ≡ true
-  here_now = turn.first.found turn.small
+  here_now = turn.taken.first.found turn.taken.small
 
   new_facts : (k : ℕ) → k < 512 → member new k ≡ true → ((has_edge conflicts u k || has_edge stitches u k) ≡ true) × (member left k ≡ true) × (member inside k ≡ false)
   new_facts k h e =
@@ -95,10 +86,10 @@ module _ {conflicts stitches left inside frontier waiting new insideNow frontier
     λ m.
         let (h, e) = (in_members new w).0 m in
         let (j, n, o) = new_facts w h e in
-        ((in_members left w).1 (h, n), bounded_joined conflicts stitches u w turn.small h ∙ j, λ i. clash ((in_members inside w).0 i).1 o),
+        ((in_members left w).1 (h, n), bounded_joined conflicts stitches u w turn.taken.small h ∙ j, λ i. clash ((in_members inside w).0 i).1 o),
     λ (m, j, o).
         let (h, n) = (in_members left w).0 m in
-        (in_members new w).1 (h, turn.news w h ∙ rw (sym (bounded_joined conflicts stitches u w turn.small h) ∙ j, n, outside w h o)),
+        (in_members new w).1 (h, turn.news w h ∙ rw (sym (bounded_joined conflicts stitches u w turn.taken.small h) ∙ j, n, outside w h o)),
   )
     where
       outside : (k : ℕ) → k < 512 → (k ∈ members_of inside → ⊥) → member inside k ≡ false
@@ -106,32 +97,32 @@ module _ {conflicts stitches left inside frontier waiting new insideNow frontier
 
   waits_on : (w : ℕ) → (w ∈ members_of frontierNow) ↔ ((w ∈ without u (members_of frontier)) ⊎ (w ∈ members_of new))
   waits_on w =
-      subst (λ xs. (w ∈ members_of frontierNow) ↔ ((w ∈ xs) ⊎ (w ∈ members_of new))) (members_out frontier waiting u turn.out) (members_either waiting new frontierNow turn.wait w)
+      subst (λ xs. (w ∈ members_of frontierNow) ↔ ((w ∈ xs) ⊎ (w ∈ members_of new))) (members_out frontier waiting u turn.taken.out) (members_either waiting new frontierNow turn.wait w)
 
   pub turn_grown : BothWays conflicts → BothWays stitches → GrownSets conflicts stitches left v insideNow frontierNow
   turn_grown c s =
-      grown_more (bounded_symmetric conflicts stitches c s) old ((in_members frontier u).1 (turn.small, here_now)) neighbours (members_either inside new insideNow turn.grow) waits_on
+      grown_more (bounded_symmetric conflicts stitches c s) old ((in_members frontier u).1 (turn.taken.small, here_now)) neighbours (members_either inside new insideNow turn.grow) waits_on
 
   pub turn_count : count_below 512 (looked insideNow frontierNow) ≡ suc (count_below 512 (looked inside frontier))
   turn_count =
-      count_ext 512 (λ k h. rw (turn.grow k h, turn.wait k h, turn.out k)
+      count_ext 512 (λ k h. rw (turn.grow k h, turn.wait k h, turn.taken.out k)
       (looked_turn (member inside k) (member frontier k) (member new k) (eqb k u)
       (inner k h)
       (λ e. (new_facts k h e).2)
       (λ e. rw (eqb-true k u e) here_now)))
-      ∙ count_in 512 (looked inside frontier) u turn.small (rw (inner u turn.small here_now, here_now))
+      ∙ count_in 512 (looked inside frontier) u turn.taken.small (rw (inner u turn.taken.small here_now, here_now))
     where
       inner : (k : ℕ) → k < 512 → member frontier k ≡ true → member inside k ≡ true
       inner k h e = ((in_members inside k).0 (old.border k ((in_members frontier k).1 (h, e)))).1
 
 -- ---- none waits
 
-module _ (conflicts stitches left : List ℕ) (v : ℕ) (inside frontier : List ℕ) {u : ℕ} (c : BothWays conflicts) (s : BothWays stitches) (l : 512 ≤ u) (first : First (member frontier) u)
+module _ (conflicts stitches left : List ℕ) (v : ℕ) (inside frontier : List ℕ) (c : BothWays conflicts) (s : BothWays stitches) (none : (k : ℕ) → k < 512 → member frontier k ≡ false)
     (grown : GrownSets conflicts stitches left v inside frontier) where
   whole : Component (bounded_graph conflicts stitches) (members_of left) (members_of inside)
   whole =
       grown_component (bounded_symmetric conflicts stitches c s) grown
-      (λ k m. let (h, e) = (in_members frontier k).0 m in clash e (first.before k (omega arith)))
+      (λ k m. let (h, e) = (in_members frontier k).0 m in clash e (none k h))
       (members_kept left inside grown.within)
 
   same_below : (after : List ℕ) → members_of left ≡ v ∷ after → SameJoined (word_graph conflicts stitches) (bounded_graph conflicts stitches) (v ∷ after)

@@ -7,29 +7,23 @@ ghost use Rattle.bitset.specs.Bits.{member};
 ghost use Rattle.adjacency.specs.Adjacency.{BothWays};
 ghost use Rattle.components.specs.Component.{IsComponent};
 
+use bitset::{BitSet, Matrix};
+
 // The vertices of left that a path through left joins to v, by edges of either kind.
-pub fn component(
-    conflicts: &[u64; 4096],
-    stitches: &[u64; 4096],
-    left: &[u64; 8],
-    v: usize,
-) -> [u64; 8]
+pub fn component(conflicts: &Matrix, stitches: &Matrix, left: &BitSet, v: usize) -> BitSet
     requires v_bound { v < 512 }
     requires v_value { member left.now v ≡ true }
     requires both_ways { BothWays conflicts.now }
     requires both_ways_2 { BothWays stitches.now }
     ensures { IsComponent conflicts.now stitches.now left.now v result }
 {
-    let mut inside = bitset::empty();
-    bitset::put(&mut inside, v);
+    let mut inside = BitSet::empty();
+    inside.put(v);
     let mut frontier = inside;
-    let mut u = v;
-    while u < 512 {
-        bitset::take_out(&mut frontier, u);
-        let new = bitset::rows_without(conflicts, stitches, u, left, &inside);
-        inside = bitset::union_of(&inside, &new);
-        frontier = bitset::union_of(&frontier, &new);
-        u = bitset::lowest(&frontier);
+    while let Some(u) = frontier.take_lowest() {
+        let new = conflicts.rows_without(stitches, u, left, &inside);
+        inside = inside.union(&new);
+        frontier = frontier.union(&new);
     }
     inside
 }
