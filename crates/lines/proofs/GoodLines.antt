@@ -20,6 +20,7 @@ pub record GoodLine (text key : List ℕ) (count : ℕ) (r : Line count) : Type 
   pub after : drop r.bytes text ≡ line.rest
   pub inside : r.bytes ≤ length text
   pub size : length line.numbers ≡ count
+  pub values : r.values ≡ capped line.numbers
   pub value : (i : ℕ) → i < count → get_or r.values i 0 ≡ min (get_or line.numbers i 0) cap
 
 module _ (text key : List ℕ) (count : ℕ) where
@@ -44,6 +45,7 @@ module _ (text key : List ℕ) (count : ℕ) where
             after = ap (drop r.bytes) written.0 ∙ drop_at (line key l.numbers) l.rest r.bytes long;
             inside = omega arith;
             size = written.1;
+            values = values;
             value = λ i h. ap (λ (vs : List ℕ). get_or vs i 0) values ∙ get_or-map (λ n. min n cap) l.numbers i 0;
           }
 

@@ -5,3 +5,4 @@ pub mod Written
 pub mod Splits
 pub mod LineForm
 pub mod GoodLines
+pub mod ReaderLaws

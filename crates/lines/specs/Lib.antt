@@ -1,1 +1,2 @@
 pub mod ReadLines
+pub mod Readers

@@ -3,5 +3,7 @@
 #![tactic(auto)]
 
 mod read;
+mod reader;
 
 pub use read::{Line, read_line};
+pub use reader::Reader;

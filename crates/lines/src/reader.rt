@@ -1,0 +1,49 @@
+// A text from one of its lines on, read line by line.
+ghost use Rattle.std.specs.Prelude.{◌≡◌, ◌+◌, ◌<◌, ◌≤◌, OnErr, OnOk};
+ghost use Rattle.rules.specs.declared.refusal.Place.{Place};
+ghost use Rattle.rules.specs.Questions.{read_line};
+ghost use Rattle.lines.specs.Readers.{line_answer, capped_line};
+
+use crate::read::read_line;
+use rules::{Place, Refusal, Refused};
+
+// What is left of the text, and the number of its first line.
+#[derive(Clone, Copy)]
+pub struct Reader<'a> {
+    pub rest: &'a [u8],
+    pub line: u32,
+}
+
+impl<'a> Reader<'a> {
+    // The whole text.
+    pub fn new(text: &'a [u8]) -> Reader<'a>
+        ensures rest { result.rest.now ≡ text.entry.now }
+        ensures line { result.line ≡ 1 }
+    {
+        Reader {
+            rest: text,
+            line: 1,
+        }
+    }
+
+    // Where the next line stands.
+    pub fn place(&self) -> Place
+        ensures { result ≡ Place.Line self.now.line }
+    {
+        Place::Line(self.line)
+    }
+
+    // The numbers of the next line, which is to have this key, each up to the cap.
+    pub fn next_line<const N: usize>(&mut self, key: &[u8]) -> Result<[u32; N], Refused>
+        requires count { (1 ≤ N) × (N ≤ 5) }
+        requires room { self.old.line < 4_294_967_295 }
+        ensures read { line_answer result self.new.rest.now ≡ capped_line (read_line key.now N self.old.line self.old.rest.now) }
+        ensures line { OnOk result (self.new.line ≡ self.old.line + 1) }
+        ensures refused { OnErr result (self.new ≡ self.old) }
+    {
+        let line = read_line(self.rest, key).ok_or(Refusal::Form.at(self.place()))?;
+        self.rest = &self.rest[line.bytes..];
+        self.line += 1;
+        Ok(line.values)
+    }
+}
