@@ -1,36 +1,45 @@
 -- What the readers of records answer, by the definitions of the rules.
-use Rattle.std.specs.Prelude.{true, List, ◌≡◌, ℕ, ◌+◌, ◌-◌, ◌≤◌, length, take, drop}
-use Rattle.rules.specs.Answers.{refusal_number}
-use Rattle.rules.specs.Questions.{done, refused}
-use Rattle.rules.specs.Stream.{record_size, record_of, read_record, pass_records}
+use Rattle.std.specs.Prelude.{true, List, map, ◌≡◌, ℕ, ◌+◌, ◌≤◌, length, Result, Ok, Err}
+use Rattle.std.specs.Borrow.{Bor}
+use Rattle.rules.specs.declared.refusal.Refused.{Refused}
+use Rattle.rules.specs.Answers.{refusal_of}
+use Rattle.rules.specs.Questions.{Outcome, done}
+use Rattle.rules.specs.Stream.{is_due, record_of, read_record, pass_records}
 use Rattle.gds_records.specs.declared.kinds.Kind.{Kind}
-use Rattle.gds_records.specs.declared.records.Part.{Part}
-use Rattle.gds_records.specs.Kinds.{due_of, dues_from}
+use Rattle.gds_records.specs.declared.records.Record.{Record}
+use Rattle.gds_records.specs.Kinds.{due_of}
+
+-- a value of which a fact holds, or the refusal that the rules come to
+abbrev pub Told : {A B : Type 0} → Outcome B → (A → Type 0) → Result A Refused → Type 0
+Told o P (Ok a) = P a
+Told o P (Err r) = o ≡ refusal_of r
 
 -- data of this length may be those of the kind
 pub record Room (kind : Kind) (size : ℕ) : Type 0 where
   pub low : (due_of kind).least ≤ size
   pub high : size ≤ (due_of kind).greatest
 
--- a record of the kind was read, of this size
-pub record Whole (kind : Kind) (k : ℕ) (bytes : List ℕ) (size : ℕ) : Type 0 where
-  pub read : read_record (due_of kind) k bytes ≡ done (record_of bytes)
-  pub counted : size ≡ record_size bytes
-  pub right : (due_of kind).right (take (size - 4) (drop 4 bytes)) ≡ true
-  pub inside : size ≤ length bytes
-  pub low : 4 + (due_of kind).least ≤ size
-  pub high : size ≤ 4 + (due_of kind).greatest
+-- the bytes start with a whole record of the kind: its data and the bytes after it
+pub record Due (kind : Kind) (bytes part rest : List ℕ) : Type 0 where
+  pub is : is_due (due_of kind) bytes ≡ true
+  pub value : record_of bytes ≡ record { bytes = part; rest = rest }
+  pub room : Room kind (length part)
+  pub parts : 4 + length part + length rest ≡ length bytes
 
-abbrev pub RecordTold : Kind → ℕ → List ℕ → Part → Type 0
-RecordTold kind k bytes (Part.Read size) = Whole kind k bytes size
-RecordTold kind k bytes (Part.Refused q place) = read_record (due_of kind) k bytes ≡ refused (refusal_number q) place
+-- a record of the kind was read: its data, which are right, and the bytes after it
+pub record Whole (kind : Kind) (k : ℕ) (bytes part rest : List ℕ) : Type 0 where
+  pub read : read_record (due_of kind) k bytes ≡ done (record { bytes = part; rest = rest })
+  pub right : (due_of kind).right part ≡ true
+  pub room : Room kind (length part)
+  pub parts : 4 + length part + length rest ≡ length bytes
 
--- the records were passed, and have as many bytes
-pub record Passed (kind : Kind) (count k : ℕ) (bytes : List ℕ) (size : ℕ) : Type 0 where
-  pub read : pass_records (dues_from kind count) k bytes ≡ done (drop size bytes)
-  pub inside : size ≤ length bytes
-  pub some : count ≤ size
+abbrev pub RecordTold : Kind → ℕ → List ℕ → Result Record Refused → Type 0
+RecordTold kind k bytes = Told (read_record (due_of kind) k bytes) λ r. Whole kind k bytes r.bytes.now r.rest.now
 
-abbrev pub PassTold : Kind → ℕ → ℕ → List ℕ → Part → Type 0
-PassTold kind count k bytes (Part.Read size) = Passed kind count k bytes size
-PassTold kind count k bytes (Part.Refused q place) = pass_records (dues_from kind count) k bytes ≡ refused (refusal_number q) place
+-- the records were passed, and have a byte each at least
+pub record Passed (kinds : List Kind) (k : ℕ) (bytes rest : List ℕ) : Type 0 where
+  pub read : pass_records (map due_of kinds) k bytes ≡ done rest
+  pub some : length kinds + length rest ≤ length bytes
+
+abbrev pub PassTold : List Kind → ℕ → List ℕ → Result (Bor (List ℕ)) Refused → Type 0
+PassTold kinds k bytes = Told (pass_records (map due_of kinds) k bytes) λ rest. Passed kinds k bytes rest.now
