@@ -8,6 +8,6 @@ mod fixed;
 mod lists;
 mod order;
 
-pub use fixed::{local_fixed, put};
-pub use lists::lay_out;
+pub use fixed::local_fixed;
+pub use lists::Lists;
 pub use order::{list_members, put_masks};

@@ -1,31 +1,75 @@
 // The lists of earlier neighbours. The places are places of units, and a neighbour is entered once for each edge between pieces of the two units.
 // No two pieces have edges of both kinds, so there is an entry at most for each of the 130,816 pairs of pieces.
-ghost use Rattle.std.specs.Prelude.{List, [], ◌≡◌, ℕ, ◌+◌, ◌≤◌, ◌<◌, length, get_or, set};
+ghost use Rattle.std.specs.Prelude.{List, [], ◌≡◌, ℕ, ◌+◌, ◌≤◌, ◌<◌, length, get_or, slice_range};
 ghost use Rattle.adjacency.specs.UnitGraph.{unit_at};
 ghost use Rattle.adjacency.specs.Adjacency.{BothWays};
 ghost use Rattle.places.specs.Chains.{Chain};
+ghost use Rattle.places.specs.Local.{conflicts_at, stitches_at, end_at, PlaceLists};
 ghost use Rattle.places.specs.Storing.{Stored, piece_entries, place_entries};
 ghost use Rattle.places.specs.LaidOut.{Exclusive, LaidOut};
 
 use crate::chains::{link, seat_pieces};
 
-// Stores a place in the list.
-fn enter(list: &mut [u16; 131584], at: usize, place: u16)
-    requires { at < 131_584 }
-    ensures { list.new ≡ set list.old at place }
-{
-    let all: &mut [u16] = list;
-    all[at] = place;
+// The earlier neighbours of each place, one after the other, and where they start: those of place k in conflict at 2 k, its stitch neighbours
+// at 2 k + 1, and the next place's at 2 k + 2. It is large, so it is made once, and lent.
+#[derive(Drop)]
+pub struct Lists {
+    pub starts: [u32; 1025],
+    pub entries: [u16; 131584],
 }
 
-// Stores where a list begins.
-fn mark(starts: &mut [u32; 1025], at: usize, start: usize)
-    requires at_bound { at < 1025 }
-    requires start_bound { start ≤ 131_584 }
-    ensures { starts.new ≡ set starts.old at start }
-{
-    let all: &mut [u32] = starts;
-    all[at] = start as u32;
+impl Lists {
+    // The conflict neighbours of place k.
+    pub fn conflicts_of(&self, k: usize) -> &[u16]
+        requires k_bound { k < 512 }
+        requires place_lists { PlaceLists self.now.starts self.now.entries k }
+        ensures { result.now ≡ slice_range self.now.entries (conflicts_at self.now.starts k) (stitches_at self.now.starts k) }
+    {
+        &self.entries[self.starts[2 * k] as usize..self.starts[2 * k + 1] as usize]
+    }
+
+    // Its stitch neighbours.
+    pub fn stitches_of(&self, k: usize) -> &[u16]
+        requires k_bound { k < 512 }
+        requires place_lists { PlaceLists self.now.starts self.now.entries k }
+        ensures { result.now ≡ slice_range self.now.entries (stitches_at self.now.starts k) (end_at self.now.starts k) }
+    {
+        &self.entries[self.starts[2 * k + 1] as usize..self.starts[2 * k + 2] as usize]
+    }
+
+    // Lays out the places, whose units are those of `order`. A unit's pieces are those below n that `units` gives it.
+    pub fn lay_out(
+        &mut self,
+        conflicts: &[u64; 4096],
+        stitches: &[u64; 4096],
+        units: &[u16; 512],
+        n: usize,
+        order: &[u16],
+    )
+        requires size_bound { (length order.now ≤ 512) × (n ≤ 512) }
+        requires by_index { (i : ℕ) → i < length order.now → get_or order.now i 0 < 512 }
+        requires by_index_2 { (i j : ℕ) → i < j → j < length order.now → get_or order.now i 0 < get_or order.now j 0 }
+        requires by_index_3 { (i : ℕ) → i < n → unit_at units.now i < 512 }
+        requires exclusive { Exclusive conflicts.now stitches.now }
+        requires both_ways { BothWays conflicts.now × BothWays stitches.now }
+        ensures { LaidOut conflicts.now stitches.now units.now n order.now (length order.now) self.new.starts self.new.entries }
+    {
+        let mut first = [512u16; 512];
+        let mut next = [512u16; 512];
+        link(units, n, &mut first, &mut next);
+        let mut earlier = bitset::empty();
+        let mut seats = [0u16; 512];
+        self.starts[0] = 0;
+        let mut end = 0;
+        for (k, unit) in order.iter().enumerate() {
+            let piece = first[*unit as usize] as usize;
+            let middle = list_place(conflicts, &seats, &earlier, piece, &next, &mut self.entries, end);
+            self.starts[2 * k + 1] = middle as u32;
+            end = list_place(stitches, &seats, &earlier, piece, &next, &mut self.entries, middle);
+            self.starts[2 * k + 2] = end as u32;
+            seat_pieces(piece, &next, k, &mut earlier, &mut seats);
+        }
+    }
 }
 
 // Stores the places of the earlier pieces that the words join to piece p, from `from` on. Answers where they end. Only neighbours are visited.
@@ -37,7 +81,7 @@ fn list_piece(
     list: &mut [u16; 131584],
     from: usize,
 ) -> usize
-    requires p_bound { (p < 512) × (length list.old ≡ 131_584) }
+    requires p_bound { p < 512 }
     requires p_bound_2 { from + length (piece_entries words.now seats.now earlier.now p) ≤ 131_584 }
     ensures { Stored (piece_entries words.now seats.now earlier.now p) [] from list.old list.new result }
 {
@@ -48,7 +92,7 @@ fn list_piece(
         if q == 512 {
             break;
         }
-        enter(list, end, seats[q]);
+        list[end] = seats[q];
         bitset::take_out(&mut rest, q);
         end += 1;
     }
@@ -65,7 +109,6 @@ fn list_place(
     list: &mut [u16; 131584],
     from: usize,
 ) -> usize
-    requires list_len { length list.old ≡ 131_584 }
     requires by_index { (pieces : List ℕ) × Chain next.now 0 piece pieces × (from + length (place_entries words.now seats.now earlier.now pieces) ≤ 131_584) }
     ensures { (pieces : List ℕ) → Chain next.now 0 piece pieces → Stored (place_entries words.now seats.now earlier.now pieces) [] from list.old list.new result }
 {
@@ -76,42 +119,4 @@ fn list_place(
         p = next[p] as usize;
     }
     end
-}
-
-// Lays out the places below `size`, whose units are those of `order`. A unit's pieces are those below n that `units` gives it.
-pub fn lay_out(
-    conflicts: &[u64; 4096],
-    stitches: &[u64; 4096],
-    units: &[u16; 512],
-    n: usize,
-    order: &[u16; 512],
-    size: usize,
-    starts: &mut [u32; 1025],
-    list: &mut [u16; 131584],
-)
-    requires size_bound { (size ≤ 512) × (n ≤ 512) × (length starts.old ≡ 1025) × (length list.old ≡ 131_584) }
-    requires by_index { (i : ℕ) → i < size → get_or order.now i 0 < 512 }
-    requires by_index_2 { (i j : ℕ) → i < j → j < size → get_or order.now i 0 < get_or order.now j 0 }
-    requires by_index_3 { (i : ℕ) → i < n → unit_at units.now i < 512 }
-    requires exclusive { Exclusive conflicts.now stitches.now }
-    requires both_ways { BothWays conflicts.now × BothWays stitches.now }
-    ensures { LaidOut conflicts.now stitches.now units.now n order.now size starts.new list.new }
-{
-    let mut first = [512u16; 512];
-    let mut next = [512u16; 512];
-    link(units, n, &mut first, &mut next);
-    let mut earlier = bitset::empty();
-    let mut seats = [0u16; 512];
-    mark(starts, 0, 0);
-    let mut end = 0;
-    let mut k = 0;
-    while k < size {
-        let piece = first[order[k] as usize] as usize;
-        let middle = list_place(conflicts, &seats, &earlier, piece, &next, list, end);
-        mark(starts, 2 * k + 1, middle);
-        end = list_place(stitches, &seats, &earlier, piece, &next, list, middle);
-        mark(starts, 2 * k + 2, end);
-        seat_pieces(piece, &next, k, &mut earlier, &mut seats);
-        k += 1;
-    }
 }

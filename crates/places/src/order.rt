@@ -1,5 +1,5 @@
 // From vertices to places and back.
-ghost use Rattle.std.specs.Prelude.{◌≡◌, ℕ, ◌≤◌, ◌<◌, length, get_or, take};
+ghost use Rattle.std.specs.Prelude.{◌≡◌, ℕ, ◌<◌, length, get_or};
 ghost use Rattle.rules.specs.Decomposition.{put_masks};
 ghost use Rattle.places.specs.Order.{Ordered};
 
@@ -24,15 +24,12 @@ pub fn list_members(members: &[u64; 8], order: &mut [u16; 512]) -> usize
     count
 }
 
-// Puts the masks of the places below `size` down at their vertices.
-pub fn put_masks(order: &[u16; 512], size: usize, masks: &[u8; 512], res: &mut [u8])
-    requires size_bound { (size ≤ 512) × (size ≤ length order.now) × (size ≤ length masks.now) }
-    requires by_index { (i : ℕ) → i < size → get_or order.now i 0 < length res.old }
-    ensures { res.new ≡ put_masks (take size order.now) (take size masks.now) res.old }
+// Puts the masks of the places down at their vertices.
+pub fn put_masks(order: &[u16], masks: &[u8], res: &mut [u8])
+    requires { (i : ℕ) → i < length order.now → get_or order.now i 0 < length res.old }
+    ensures { res.new ≡ put_masks order.now masks.now res.old }
 {
-    let mut i = 0;
-    while i < size {
-        res[order[i] as usize] = masks[i];
-        i += 1;
+    for (vertex, mask) in order.iter().zip(masks) {
+        res[*vertex as usize] = *mask;
     }
 }

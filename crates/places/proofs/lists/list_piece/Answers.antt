@@ -1,6 +1,6 @@
 use native.Mathlib.Omega.{arith}
 use mathlib.Core.List.{List}
-use mathlib.Core.Path.{subst, subst⁻¹}
+use mathlib.Core.Path.{subst}
 use Prim.Native.Nat.{ℕ, ◌+◌, ◌<◌}
 use Rattle.bitset.specs.Bits.{First}
 use Rattle.places.specs.Storing.{Stored, piece_entries}
@@ -22,7 +22,7 @@ module _ (c : Else-q-eq512) where
 pub loop-rest-init : goal.loop-rest-init
 loop-rest-init c =
     let a = c.args in
-    stored_none (piece_entries a.words.now a.seats.now a.earlier.now a.p) a.from a.list.now c.requires.p_bound.1
+    stored_none (piece_entries a.words.now a.seats.now a.earlier.now a.p) a.from a.list.now c.told-list
 
 pub offset_bounds-seats-q : goal.offset_bounds-seats-q
 offset_bounds-seats-q c = omega (arith, small (goal.at.offset_bounds-seats-q c).Else-q-eq512)
@@ -30,8 +30,11 @@ offset_bounds-seats-q c = omega (arith, small (goal.at.offset_bounds-seats-q c).
 pub bounds-seats-q : goal.bounds-seats-q
 bounds-seats-q c = small (goal.at.bounds-seats-q c).Else-q-eq512
 
-pub enter-requires : goal.enter-requires
-enter-requires c = room (goal.at.enter-requires c).Else-q-eq512
+pub offset_bounds-list-end : goal.offset_bounds-list-end
+offset_bounds-list-end c = omega (arith, room (goal.at.offset_bounds-list-end c).Else-q-eq512)
+
+pub bounds-list-end : goal.bounds-list-end
+bounds-list-end c = room (goal.at.bounds-list-end c).Else-q-eq512
 
 pub take_out-requires : goal.take_out-requires
 take_out-requires c = small (goal.at.take_out-requires c).Else-q-eq512
@@ -47,8 +50,7 @@ loop-rest-preserved c =
     let a = c.args in
     let items = piece_entries a.words.now a.seats.now a.earlier.now a.p in
     let more = piece_next a.words.now a.seats.now c.loop-rest.rest a.p c.lowest_in_row-q.result (small (goal.at.loop-rest-preserved c).Else-q-eq512) c.lowest_in_row-q.ensures c.take_out.new.s c.take_out.ensures in
-    let next = stored_next (room (goal.at.loop-rest-preserved c).Else-q-eq512) (subst (λ (left : List ℕ). Stored items left a.from a.list.now c.loop-rest.list c.loop-rest.end) more c.loop-rest.invariant) in
-    subst⁻¹ (λ (l : List ℕ). Stored items (piece_entries a.words.now a.seats.now c.take_out.new.s a.p) a.from a.list.now l (c.loop-rest.end + 1)) c.enter.ensures next
+    stored_next (room (goal.at.loop-rest-preserved c).Else-q-eq512) (subst (λ (left : List ℕ). Stored items left a.from a.list.now c.loop-rest.list c.loop-rest.end) more c.loop-rest.invariant)
 
 pub returns : goal.returns
 returns c =

@@ -16,13 +16,13 @@ later turn =
 pub loop-p-init : goal.loop-p-init
 loop-p-init c pieces chain =
     let a = c.args in
-    passing_none a.words.now a.seats.now a.earlier.now a.next.now pieces a.piece a.from a.list.now c.requires.list_len chain
+    passing_none a.words.now a.seats.now a.earlier.now a.next.now pieces a.piece a.from a.list.now c.told-list chain
 
 pub list_piece-end-requires : goal.list_piece-end-requires
 list_piece-end-requires c =
     let passing = c.loop-p.invariant c.requires.by_index.0 c.requires.by_index.1 in
     record {
-      p_bound = (c.loop-p-test.true, passing.stored.whole);
+      p_bound = c.loop-p-test.true;
       p_bound_2 = omega (arith, passing_room passing c.loop-p-test.true c.requires.by_index.2, passing.stored.start);
     }
 
