@@ -23,7 +23,8 @@ impl Lists {
     pub fn conflicts_of(&self, k: usize) -> &[u16]
         requires k_bound { k < 512 }
         requires place_lists { PlaceLists self.now.starts self.now.entries k }
-        ensures { result.now ≡ slice_range self.now.entries (conflicts_at self.now.starts k) (stitches_at self.now.starts k) }
+        ensures part { result.now ≡ slice_range self.now.entries (conflicts_at self.now.starts k) (stitches_at self.now.starts k) }
+        ensures len { length result.now + conflicts_at self.now.starts k ≡ stitches_at self.now.starts k }
     {
         &self.entries[self.starts[2 * k] as usize..self.starts[2 * k + 1] as usize]
     }
@@ -32,7 +33,8 @@ impl Lists {
     pub fn stitches_of(&self, k: usize) -> &[u16]
         requires k_bound { k < 512 }
         requires place_lists { PlaceLists self.now.starts self.now.entries k }
-        ensures { result.now ≡ slice_range self.now.entries (stitches_at self.now.starts k) (end_at self.now.starts k) }
+        ensures part { result.now ≡ slice_range self.now.entries (stitches_at self.now.starts k) (end_at self.now.starts k) }
+        ensures len { length result.now + stitches_at self.now.starts k ≡ end_at self.now.starts k }
     {
         &self.entries[self.starts[2 * k + 1] as usize..self.starts[2 * k + 2] as usize]
     }

@@ -1,3 +1,3 @@
--- Laws of rows of added costs, and of the table that they are made by.
+-- Laws of rows of added costs, and of the table of a weight.
 pub mod Rows
 pub mod Tables

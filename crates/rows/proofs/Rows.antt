@@ -5,19 +5,23 @@ use mathlib.Core.Logic.{by_cases}
 use mathlib.Core.Path.{◌≡◌, refl, sym, ap, ◌∙◌}
 use Prim.Native.Nat.{ℕ, zero, suc, ◌+◌, ◌-◌, ◌*◌, ◌≤◌, ◌<◌}
 use native.Mathlib.Decide.{ℕ_discrete}
-use native.Mathlib.Nat.{mul-le-mul, le_refl}
+use native.Mathlib.Nat.{zero-add, mul-le-mul, mul-add, le_refl}
 use native.Mathlib.Omega.{arith}
 use lib.Dec.{eqb}
-use lib.ListN.{length, get_or, take, set, replicate, get_or-replicate}
-use lib.Seq.{get_or-set_same, get_or-set_other, get_or-take, length-take-le}
+use lib.ListN.{length, get_or, drop, set, replicate, get_or-replicate}
+use lib.Seq.{get_or-set_same, get_or-set_other, get_or-take, get_or-drop}
 use borrow.Author.Tests.{eq-eqb, ne_eqb}
+use Rattle.std.specs.List.{slice_range}
 use Rattle.rules.specs.Basics.{given, sum_to}
+use Rattle.rules.proofs.Tests.{by_test}
 use Rattle.rules.proofs.Sums.{sum_next, sum_le, sum_ext}
 use Rattle.places.specs.Local.{on_mask, off_mask, conflicts_at, stitches_at, end_at, local_added, PlaceLists}
 
-given_small : (b : Bool) → given b 1 ≤ 1
-given_small true = omega arith
-given_small false = omega arith
+pub given_most : (b : Bool) (x : ℕ) → given b x ≤ x
+given_most true x = omega arith
+given_most false x = omega arith
+
+-- ---- Entries
 
 -- one entry more
 pub on_next : (list p : List ℕ) (m a i : ℕ) → a ≤ i → on_mask list p m a (i + 1) ≡ on_mask list p m a i + given (eqb (get_or p (get_or list i 0) 0) m) 1
@@ -31,10 +35,10 @@ unfolding sum_to
 on_none list p m a = let none : a - a ≡ 0 = omega arith in rw none
 
 pub on_small : (list p : List ℕ) (m a b : ℕ) → on_mask list p m a b ≤ b - a
-on_small list p m a b = sum_le (λ j. given (eqb (get_or p (get_or list (a + j) 0) 0) m) 1) (b - a) (λ j. given_small (eqb (get_or p (get_or list (a + j) 0) 0) m))
+on_small list p m a b = sum_le (λ j. given (eqb (get_or p (get_or list (a + j) 0) 0) m) 1) (b - a) (λ j. given_most (eqb (get_or p (get_or list (a + j) 0) 0) m) 1)
 
 pub off_small : (list p : List ℕ) (m a b : ℕ) → off_mask list p m a b ≤ b - a
-off_small list p m a b = sum_le (λ j. given (not (eqb (get_or p (get_or list (a + j) 0) 0) m)) 1) (b - a) (λ j. given_small (not (eqb (get_or p (get_or list (a + j) 0) 0) m)))
+off_small list p m a b = sum_le (λ j. given (not (eqb (get_or p (get_or list (a + j) 0) 0) m)) 1) (b - a) (λ j. given_most (not (eqb (get_or p (get_or list (a + j) 0) 0) m)) 1)
 
 -- each entry has the mask or not
 either : (f : ℕ → Bool) (n : ℕ) → sum_to (λ j. given (f j) 1) n + sum_to (λ j. given (not (f j)) 1) n ≡ n
@@ -50,12 +54,11 @@ either f (suc n) = go (f n) (either f n)
 pub on_off : (list p : List ℕ) (m a b : ℕ) → on_mask list p m a b + off_mask list p m a b ≡ b - a
 on_off list p m a b = either (λ j. eqb (get_or p (get_or list (a + j) 0) 0) m) (b - a)
 
--- masks so far: the same entries count, where those are earlier places
-pub on_same : (list p q : List ℕ) (m a b : ℕ) → ((i : ℕ) → a ≤ i → i < b → get_or p (get_or list i 0) 0 ≡ get_or q (get_or list i 0) 0) → on_mask list p m a b ≡ on_mask list q m a b
-on_same list p q m a b h = sum_ext (b - a) (λ j l. ap (λ (x : ℕ). given (eqb x m) 1) (h (a + j) (omega arith) (omega arith)))
-
-pub off_same : (list p q : List ℕ) (m a b : ℕ) → ((i : ℕ) → a ≤ i → i < b → get_or p (get_or list i 0) 0 ≡ get_or q (get_or list i 0) 0) → off_mask list p m a b ≡ off_mask list q m a b
-off_same list p q m a b h = sum_ext (b - a) (λ j l. ap (λ (x : ℕ). given (not (eqb x m)) 1) (h (a + j) (omega arith) (omega arith)))
+-- the entries of a part
+pub on_part : (list p part : List ℕ) (m a b : ℕ) → part ≡ slice_range list a b → length part + a ≡ b → on_mask part p m 0 (length part) ≡ on_mask list p m a b
+on_part list p part m a b e l =
+    let size : length part - 0 ≡ b - a = omega arith in
+    rw size (sum_ext (b - a) (λ j h. ap (λ (x : ℕ). given (eqb (get_or p x 0) m) 1) (rw (e, zero-add j) (get_or-take (b - a) (drop a list) j 0 h ∙ get_or-drop a list j 0))))
 
 module _ (list p sums row : List ℕ) (a i : ℕ) (h : a ≤ i) (size : length sums ≡ 8) (small : get_or p (get_or list i 0) 0 < 8) where
   abbrev mask : ℕ
@@ -75,18 +78,19 @@ module _ (list p sums row : List ℕ) (a i : ℕ) (h : a ≤ i) (size : length s
       let stored = get_or-set_other sums mask m (get_or sums mask 0 - 1) 0 (λ q. n (sym q)) in
       omega (arith, e m l))
 
--- what the whole row says, for the masks before place k
-pub row_made : (weight : ℕ) (starts list partial : List ℕ) (k m : ℕ) → k ≤ length partial → PlaceLists starts list k
-    → weight * on_mask list partial m (conflicts_at starts k) (stitches_at starts k) + off_mask list partial m (stitches_at starts k) (end_at starts k)
-    ≡ local_added weight starts list (take k partial) m
-unfolding local_added
-row_made weight starts list partial k m h lists =
-    let size = length-take-le k partial h in
-    let same : (i : ℕ) → conflicts_at starts k ≤ i → i < end_at starts k → get_or partial (get_or list i 0) 0 ≡ get_or (take k partial) (get_or list i 0) 0
-    = λ i from to. sym (get_or-take k partial (get_or list i 0) 0 (lists.earlier i from to)) in
-    let on = on_same list partial (take k partial) m (conflicts_at starts k) (stitches_at starts k) (λ i from to. same i from (omega (arith, lists.stitches))) in
-    let off = off_same list partial (take k partial) m (stitches_at starts k) (end_at starts k) (λ i from to. same i (omega (arith, lists.conflicts)) to) in
-    rw (size, on, off)
+-- one entry more: its mask has the weight added
+pub row_more : (list p sums sums' row : List ℕ) (weight a i m : ℕ) → a ≤ i → get_or sums m 0 ≡ get_or row m 0 + weight * on_mask list p m a i
+    → get_or sums' m 0 ≡ get_or sums m 0 + given (eqb (get_or p (get_or list i 0) 0) m) weight
+    → get_or sums' m 0 ≡ get_or row m 0 + weight * on_mask list p m a (i + 1)
+row_more list p sums sums' row weight a i m h e n =
+    let mask = get_or p (get_or list i 0) 0 in
+    by_test (eqb mask m)
+    (λ t.
+    let one : on_mask list p m a (i + 1) ≡ on_mask list p m a i + 1 = on_next list p m a i h ∙ rw t in
+    omega (arith, n ∙ ap (λ (x : Bool). get_or sums m 0 + given x weight) t, e, ap (λ (k : ℕ). weight * k) one, mul-add weight (on_mask list p m a i) 1))
+    (λ t.
+    let one : on_mask list p m a (i + 1) ≡ on_mask list p m a i = on_next list p m a i h ∙ rw t (omega arith) in
+    omega (arith, n ∙ ap (λ (x : Bool). get_or sums m 0 + given x weight) t, e, ap (λ (k : ℕ). weight * k) one))
 
 pub eight : (x m : ℕ) → m < 8 → get_or (replicate 8 x) m 0 ≡ x
 eight x m l = get_or-replicate 8 m x 0 l

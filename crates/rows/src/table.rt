@@ -51,10 +51,11 @@ impl Table {
         self.fixed[p]
     }
 
-    // What each mask adds where a conflict neighbour has this one.
+    // What each mask adds where a conflict neighbour has this one: at most 1,000, the greatest weight.
     pub fn weights_of(&self, mask: u8) -> &[u32; 8]
         requires { mask < 8 }
-        ensures { (m : ℕ) → m < 8 → get_or result.now m 0 ≡ given (eqb mask m) self.now.weight }
+        ensures weights { (m : ℕ) → m < 8 → get_or result.now m 0 ≡ given (eqb mask m) self.now.weight }
+        ensures light { self.now.weight ≤ 1000 }
     {
         &self.weights[mask as usize]
     }

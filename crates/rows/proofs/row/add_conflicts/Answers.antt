@@ -1,68 +1,25 @@
 use native.Mathlib.Omega.{arith}
-use mathlib.Core.Path.{◌≡◌, ap, subst}
-use Prim.Native.Nat.{ℕ, ◌+◌, ◌*◌, ◌≤◌, ◌<◌}
 use native.Mathlib.Nat.{mul-le-mul}
+use mathlib.Core.Path.{ap, ◌∙◌}
+use Prim.Native.Nat.{ℕ, ◌+◌, ◌*◌, ◌≤◌, ◌<◌}
+use lib.Dec.{eqb}
 use lib.ListN.{get_or}
 use Rattle.places.specs.Local.{on_mask}
-use Rattle.rows.specs.Weights.{weight_of}
-use Rattle.rows.proofs.Rows.{on_none, on_small}
-use Rattle.rows.proofs.Tables.{row_more}
+use Rattle.rows.proofs.Rows.{on_none, on_small, row_more, given_most}
 use Rattle.rows.proofs.row.add_conflicts.Goals as goal
-use Rattle.rows.proofs.row.add_conflicts.Goals.{In-loop-i}
 
--- an entry is passed
-module _ (turn : In-loop-i) where
-  small : get_or turn.args.list.now turn.loop-i.i 0 < 512
-  small = turn.requires.by_index turn.loop-i.i turn.loop-i.invariant.0 turn.loop-i-test.true
+pub loop-neighbour-init : goal.loop-neighbour-init
+loop-neighbour-init c m l = omega (arith, ap (λ (k : ℕ). c.args.table.now.weight * k) (on_none c.args.neighbours.now c.args.before.now m 0))
 
-  low : get_or turn.args.partial.now (get_or turn.args.list.now turn.loop-i.i 0) 0 < 8
-  low = turn.requires.by_index_2 turn.loop-i.i turn.loop-i.invariant.0 turn.loop-i-test.true
+pub add_each-requires : goal.add_each-requires
+add_each-requires c m l =
+    let neighbours = c.args.neighbours.now in
+    let i = c.loop-neighbour.neighbour-index in
+    let mask = get_or c.args.before.now (get_or neighbours i 0) 0 in
+    let few : on_mask neighbours c.args.before.now m 0 i ≤ 131584 = omega (arith, on_small neighbours c.args.before.now m 0 i, c.requires.few) in
+    omega (arith, c.loop-neighbour.invariant m l, c.requires.small m l, c.weights_of.ensures.weights m l, mul-le-mul c.weights_of.ensures.light few, given_most (eqb mask m) c.args.table.now.weight)
 
-  cheap : (m : ℕ) → m < 8 → get_or turn.loop-i.sums m 0 ≤ 131715584
-  cheap m l =
-      let list = turn.args.list.now in
-      let partial = turn.args.partial.now in
-      let from = turn.args.from in
-      let few : on_mask list partial m from turn.loop-i.i ≤ 131584 = omega (arith, on_small list partial m from turn.loop-i.i, turn.requires.from_le_to.1, turn.loop-i.invariant.1) in
-      omega (arith, turn.loop-i.invariant.2 m l, turn.requires.by_index_3 m, mul-le-mul turn.requires.weights.light few)
-
-pub loop-i-init : goal.loop-i-init
-loop-i-init c = (omega arith, omega (arith, c.requires.from_le_to), λ m l. omega (arith, ap (λ (k : ℕ). weight_of c.args.table.now * k) (on_none c.args.list.now c.args.partial.now m c.args.from)))
-
-pub overflow_cast-list : goal.overflow_cast-list
-overflow_cast-list c = omega (arith, small (goal.at.overflow_cast-list c).In-loop-i)
-
-pub bounds-partial-list : goal.bounds-partial-list
-bounds-partial-list c = small (goal.at.bounds-partial-list c).In-loop-i
-
-pub overflow_cast-partial : goal.overflow_cast-partial
-overflow_cast-partial c = omega (arith, low (goal.at.overflow_cast-partial c).In-loop-i)
-
-pub add_weight-more-requires : goal.add_weight-more-requires
-add_weight-more-requires c =
-    record {
-      mask_bound = low (goal.at.add_weight-more-requires c).In-loop-i;
-      weights = c.requires.weights;
-      by_index = cheap (goal.at.add_weight-more-requires c).In-loop-i;
-    }
-
-pub overflow_add-i : goal.overflow_add-i
-overflow_add-i c = omega (arith, c.loop-i-test.true)
-
-pub loop-i-smaller : goal.loop-i-smaller
-loop-i-smaller c = omega (arith, c.loop-i-test.true)
-
-pub loop-i-preserved : goal.loop-i-preserved
-loop-i-preserved c =
-    let a = c.args in
-    let l = c.loop-i in (
-      omega (arith, l.invariant.0),
-      omega (arith, c.loop-i-test.true),
-      λ m h. row_more a.list.now a.partial.now l.sums c.add_weight-more.result a.row (weight_of a.table.now) a.from l.i m l.invariant.0 (l.invariant.2 m h) (c.add_weight-more.ensures m h),
-    )
-
-pub returns : goal.returns
-returns c =
-    let loop = c.loop-i in
-    let all : loop.i ≡ c.args.to = omega (arith, loop.invariant.1, c.loop-i-test.false) in
-    subst (λ (k : ℕ). (m : ℕ) → m < 8 → get_or loop.sums m 0 ≡ get_or c.args.row m 0 + weight_of c.args.table.now * on_mask c.args.list.now c.args.partial.now m c.args.from k) all loop.invariant.2
+pub loop-neighbour-preserved : goal.loop-neighbour-preserved
+loop-neighbour-preserved c m l =
+    row_more c.args.neighbours.now c.args.before.now c.loop-neighbour.sums c.add_each.new.sums c.args.sums.now c.args.table.now.weight 0 c.loop-neighbour.neighbour-index m (omega arith) (c.loop-neighbour.invariant m l)
+    (c.add_each.ensures m l ∙ ap (λ (x : ℕ). get_or c.loop-neighbour.sums m 0 + x) (c.weights_of.ensures.weights m l))
