@@ -5,79 +5,63 @@ ghost use Rattle.rules.specs.Settings.{unset};
 ghost use Rattle.rules.specs.Peeling.{is_fixed};
 ghost use Rattle.rules.specs.Search.{cheapest};
 ghost use Rattle.places.specs.Local.{PlaceLists};
-ghost use Rattle.rows.specs.Weights.{weight_of, Weights};
 ghost use Rattle.first_assignment.specs.First.{fixed_to, FixedLow, FirstOf};
 
-use places::put;
-use rows::added_row;
+use places::Lists;
+use rows::{Table, added_row};
 use rules::Piece;
 
-// The mask at which the row is least, the lowest on a tie.
-fn cheapest_mask(row: &[u32; 8], masks: u64) -> u64
-    requires { (1 ≤ masks) × (masks ≤ 8) }
-    ensures { result ≡ cheapest (λ m. get_or row.now m 0) masks }
+// The mask of which the cost is least, the lowest on a tie.
+fn cheapest_mask(costs: &[u32]) -> usize
+    requires { 1 ≤ length costs.now }
+    ensures { result ≡ cheapest (λ m. get_or costs.now m 0) (length costs.now) }
 {
     let mut best = 0;
-    let mut m = 1;
-    while m < masks {
-        if row[m as usize] < row[best as usize] {
+    for (m, cost) in costs.iter().enumerate() {
+        if *cost < costs[best] {
             best = m;
         }
-        m += 1;
     }
     best
 }
 
 // The fixed mask, or else the cheapest one.
-fn first_mask(row: &[u32; 8], masks: u64, fixed: u8) -> u64
-    requires { (1 ≤ masks) × (masks ≤ 8) }
-    ensures { result ≡ cond (not (eqb fixed unset)) fixed (cheapest (λ m. get_or row.now m 0) masks) }
+fn first_mask(costs: &[u32], fixed: u8) -> usize
+    requires { 1 ≤ length costs.now }
+    ensures { result ≡ cond (not (eqb fixed unset)) fixed (cheapest (λ m. get_or costs.now m 0) (length costs.now)) }
 {
     if fixed != Piece::UNSET {
-        return fixed as u64;
+        return usize::from(fixed);
     }
-    cheapest_mask(row, masks)
+    cheapest_mask(costs)
 }
 
-// Whether a place below `size` is fixed.
-pub fn has_fixed(fixed: &[u8; 512], size: usize) -> bool
-    requires { (size ≤ 512) × (length fixed.now ≡ 512) }
-    ensures { result ≡ any_of (is_fixed (fixed_to fixed.now size)) (up_to size) }
+// Whether a place is fixed.
+pub fn has_fixed(fixed: &[u8]) -> bool
+    ensures { result ≡ any_of (is_fixed (fixed_to fixed.now (length fixed.now))) (up_to (length fixed.now)) }
 {
-    let mut i = 0;
-    while i < size {
-        if fixed[i] != Piece::UNSET {
-            return true;
-        }
-        i += 1;
-    }
-    false
+    fixed.iter().any(|mask| *mask != Piece::UNSET)
 }
 
-// Fills the places below `size`, and answers what that costs.
+// Fills the places, of which `fixed` has the fixed masks, and answers what that costs.
 pub fn first_assignment(
-    starts: &[u32; 1025],
-    list: &[u16; 131584],
-    table: &[u32; 576],
-    fixed: &[u8; 512],
-    partial: &mut [u8; 512],
-    size: usize,
+    lists: &Lists,
+    table: &Table,
+    fixed: &[u8],
     masks: u64,
+    partial: &mut [u8; 512],
 ) -> u64
-    requires size_bound { (size ≤ 512) × (1 ≤ masks) × (masks ≤ 8) × (length fixed.now ≡ 512) × (length partial.old ≡ 512) }
-    requires fixed_low { FixedLow (fixed_to fixed.now size) size masks }
-    requires weights { Weights table.now (weight_of table.now) }
-    requires by_index { (k : ℕ) → k < size → PlaceLists starts.now list.now k }
-    ensures { FirstOf masks (weight_of table.now) starts.now list.now (fixed_to fixed.now size) size partial.new result }
+    requires size_bound { (length fixed.now ≤ 512) × (1 ≤ masks) × (masks ≤ 8) }
+    requires fixed_low { FixedLow (fixed_to fixed.now (length fixed.now)) (length fixed.now) masks }
+    requires by_index { (k : ℕ) → k < length fixed.now → PlaceLists lists.now.starts lists.now.entries k }
+    ensures { FirstOf masks table.now.weight lists.now.starts lists.now.entries (fixed_to fixed.now (length fixed.now)) (length fixed.now) partial.new result }
 {
     let mut cost = 0;
-    let mut k = 0;
-    while k < size {
-        let row = added_row(starts, list, table, partial, k);
-        let m = first_mask(&row, masks, fixed[k]);
-        put(partial, k, m as u8);
-        cost += row[m as usize] as u64;
-        k += 1;
+    for (k, own) in fixed.iter().enumerate() {
+        let row = added_row(lists, table, &partial[..k]);
+        let m = first_mask(&row[..masks as usize], *own);
+        partial[k] = m as u8;
+        cost += u64::from(row[m]);
     }
     cost
 }

@@ -22,10 +22,12 @@ fn add_conflicts(sums: &mut [u32; 8], table: &Table, neighbours: &[u16], before:
     requires earlier { (i : ℕ) → i < length neighbours.now → get_or neighbours.now i 0 < length before.now }
     requires low { (i : ℕ) → i < length before.now → get_or before.now i 0 < 8 }
     requires small { (m : ℕ) → m < 8 → get_or sums.old m 0 ≤ 131584 }
-    ensures { (m : ℕ) → m < 8 → get_or sums.new m 0 ≡ get_or sums.old m 0 + table.now.weight * on_mask neighbours.now before.now m 0 (length neighbours.now) }
+    ensures adds { (m : ℕ) → m < 8 → get_or sums.new m 0 ≡ get_or sums.old m 0 + table.now.weight * on_mask neighbours.now before.now m 0 (length neighbours.now) }
+    ensures few_more { (m : ℕ) → m < 8 → get_or sums.new m 0 ≤ get_or sums.old m 0 + 1000 * length neighbours.now }
 {
+    let weights = &table.weights;
     for neighbour in neighbours {
-        add_each(sums, table.weights_of(before[*neighbour as usize]));
+        add_each(sums, &weights[before[*neighbour as usize] as usize]);
     }
 }
 
@@ -46,7 +48,8 @@ pub fn added_row(lists: &Lists, table: &Table, before: &[u8]) -> [u32; 8]
     requires few { length before.now < 512 }
     requires place_lists { PlaceLists lists.now.starts lists.now.entries (length before.now) }
     requires low { (i : ℕ) → i < length before.now → get_or before.now i 0 < 8 }
-    ensures { (m : ℕ) → m < 8 → get_or result m 0 ≡ local_added table.now.weight lists.now.starts lists.now.entries before.now m }
+    ensures small { (m : ℕ) → m < 8 → get_or result m 0 ≤ 131_715_584 }
+    ensures adds { (m : ℕ) → m < 8 → get_or result m 0 ≡ local_added table.now.weight lists.now.starts lists.now.entries before.now m }
 {
     let k = before.len();
     let stitches = lists.stitches_of(k);

@@ -5,7 +5,7 @@ use std::marker::Model;
 // masks of the places. A contract sees the weight and those masks.
 #[derive(Drop)]
 pub struct Table {
-    weights: [[u32; 8]; 8],
+    pub(crate) weights: [[u32; 8]; 8],
     fixed: [u8; 512],
 }
 
@@ -19,8 +19,7 @@ impl Model for Table {
     ghost invariant = { λ t. Weights t.weights (weight_of t.weights) };
 }
 
-ghost use Rattle.std.specs.Prelude.{◌≡◌, ℕ, ◌≤◌, ◌<◌, length, get_or, take, eqb};
-ghost use Rattle.rules.specs.Basics.{given};
+ghost use Rattle.std.specs.Prelude.{◌≡◌, ◌≤◌, ◌<◌, length, get_or, take};
 ghost use Rattle.rules.specs.Settings.{unset};
 
 impl Table {
@@ -49,14 +48,5 @@ impl Table {
         ensures { result ≡ get_or self.now.fixed p unset }
     {
         self.fixed[p]
-    }
-
-    // What each mask adds where a conflict neighbour has this one: at most 1,000, the greatest weight.
-    pub fn weights_of(&self, mask: u8) -> &[u32; 8]
-        requires { mask < 8 }
-        ensures weights { (m : ℕ) → m < 8 → get_or result.now m 0 ≡ given (eqb mask m) self.now.weight }
-        ensures light { self.now.weight ≤ 1000 }
-    {
-        &self.weights[mask as usize]
     }
 }

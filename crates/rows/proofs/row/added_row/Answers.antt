@@ -7,9 +7,20 @@ use Rattle.places.specs.Local.{conflicts_at, stitches_at, end_at, local_added}
 use Rattle.rows.proofs.Rows.{on_off, on_part, eight}
 use Rattle.rows.proofs.row.added_row.Goals as goal
 
-pub returns : goal.returns
+pub returns-clause-small : goal.returns-clause-small
+returns-clause-small c m l =
+    omega (
+      arith,
+      c.drop_stitches.ensures m l,
+      c.add_conflicts.ensures.few_more m l,
+      eight (length c.stitches_of-stitches.result.now) m l,
+      c.requires.place_lists.stitches,
+      c.requires.place_lists.inside,
+    )
+
+pub returns-clause-adds : goal.returns-clause-adds
 unfolding local_added
-returns c m l =
+returns-clause-adds c m l =
     let starts = c.args.lists.now.starts in
     let list = c.args.lists.now.entries in
     let before = c.args.before.now in
@@ -19,7 +30,7 @@ returns c m l =
     omega (
       arith,
       c.drop_stitches.ensures m l,
-      c.add_conflicts.ensures m l,
+      c.add_conflicts.ensures.adds m l,
       eight (length c.stitches_of-stitches.result.now) m l,
       ap (λ (n : ℕ). c.args.table.now.weight * n) on,
       off,
