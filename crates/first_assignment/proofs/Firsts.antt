@@ -8,14 +8,13 @@ use native.Mathlib.Numerals.{add-one}
 use native.Mathlib.Omega.{arith}
 use lib.Dec.{eqb, ltb}
 use lib.ListN.{length, get_or, take, set, length-set}
-use lib.Seq.{length-take-le}
+use lib.Seq.{length-take-le, get_or-take}
 use borrow.Author.Tests.{lt-ltb, le-ltb}
 use Rattle.rules.specs.Settings.{unset}
 use Rattle.rules.specs.Search.{cheapest, first_after, first_mask, total, total_after}
 use Rattle.rules.proofs.Tests.{by_test}
 use Rattle.theory.proofs.Search.{cheapest_below, total_snoc}
-use Rattle.places.specs.Local.{local_added, PlaceLists}
-use Rattle.rows.proofs.Rows.{added_most}
+use Rattle.places.specs.Local.{local_added}
 use Rattle.first_assignment.specs.First.{FixedLow, FirstOf}
 use Rattle.first_assignment.proofs.Stored.{take_stored, stored_low}
 
@@ -35,10 +34,10 @@ module _ (f : ℕ → ℕ) where
   cheapest_old m h = rw (add-one m, le-ltb (f m) (f (cheapest f m)) h)
 
 -- b is the mask m or the best before it, whichever is less
-pub cheapest_next : (f : ℕ → ℕ) (best m b : ℕ) → best < m → best ≡ cheapest f m → ((f m < f best) × (b ≡ m)) ⊎ ((f best ≤ f m) × (b ≡ best)) → (b < m + 1) × (b ≡ cheapest f (m + 1))
-cheapest_next f best m b l e w = ⊎_elim
-    (λ h. (omega (arith, h.1), h.1 ∙ sym (cheapest_new f m (omega (arith, h.0, ap f e)))))
-    (λ h. (omega (arith, h.1), h.1 ∙ e ∙ sym (cheapest_old f m (omega (arith, h.0, ap f e)))))
+pub cheapest_next : (f : ℕ → ℕ) (best m b : ℕ) → best ≡ cheapest f m → ((f m < f best) × (b ≡ m)) ⊎ ((f best ≤ f m) × (b ≡ best)) → b ≡ cheapest f (m + 1)
+cheapest_next f best m b e w = ⊎_elim
+    (λ h. h.1 ∙ sym (cheapest_new f m (omega (arith, h.0, ap f e))))
+    (λ h. h.1 ∙ e ∙ sym (cheapest_old f m (omega (arith, h.0, ap f e))))
     w
 
 -- it looks at the numbers below k alone
@@ -52,6 +51,10 @@ cheapest-same f g (suc (suc k)) e =
     let here : f (suc k) ≡ g (suc k) = e (suc k) (omega arith) in
     let best : f (cheapest g (suc k)) ≡ g (cheapest g (suc k)) = e (cheapest g (suc k)) (omega arith) in
     rw (r, here, best)
+
+-- the same of the first k of a list
+pub cheapest_take : (row : List ℕ) (k : ℕ) → k ≤ length row → cheapest (λ m. get_or (take k row) m 0) (length (take k row)) ≡ cheapest (λ m. get_or row m 0) k
+cheapest_take row k h = rw (length-take-le k row h) (cheapest-same (λ m. get_or (take k row) m 0) (λ m. get_or row m 0) k (λ m l. get_or-take k row m 0 l))
 
 -- ---- The mask of a place
 
@@ -92,23 +95,17 @@ module _ (K weight : ℕ) (starts list : List ℕ) (fixed : ℕ → ℕ) (size :
       let masks : take k partial ≡ first_after pick size [] = ap (λ (n : ℕ). first_after pick n (take k partial)) (sym none) ∙ f.masks in
       record { masks = ap (λ (n : ℕ). take n partial) (sym end) ∙ masks; cost = f.total ∙ ap (λ (n : ℕ). total add (take n partial)) end; whole = f.whole }
 
-  pub filled_small : {partial : List ℕ} {cost k : ℕ} → Filled K weight starts list fixed size partial cost k → (m : ℕ) → size ≤ 512 → weight ≤ 1000 → k < size → PlaceLists starts list k
-      → add (take k partial) m ≤ 131_715_584
-  filled_small {partial} {cost} {k} f m few light h lists =
-      let long : length (take k partial) ≡ k = length-take-le k partial (omega (arith, f.whole)) in
-      added_most weight starts list (take k partial) m light (subst⁻¹ (PlaceLists starts list) long lists)
-
   -- the mask that is taken is stored at k, and its cost added
-  pub filled_next : {partial : List ℕ} {cost k : ℕ} (f : ℕ) (row : List ℕ) → size ≤ 512 → 1 ≤ K → K ≤ 8 → weight ≤ 1000 → k < size → PlaceLists starts list k → FixedLow fixed size K
-      → f ≡ fixed k → ((x : ℕ) → x < 8 → get_or row x 0 ≡ add (take k partial) x) → {m : ℕ} → m ≡ taken f row K
+  pub filled_next : {partial : List ℕ} {cost k : ℕ} (f : ℕ) (row : List ℕ) → size ≤ 512 → 1 ≤ K → K ≤ 8 → k < size → FixedLow fixed size K
+      → f ≡ fixed k → ((x : ℕ) → x < 8 → get_or row x 0 ≤ 131_715_584) → ((x : ℕ) → x < 8 → get_or row x 0 ≡ add (take k partial) x) → {m : ℕ} → m ≡ taken f row K
       → Filled K weight starts list fixed size partial cost k → Filled K weight starts list fixed size (set partial k m) (cost + get_or row m 0) (k + 1)
   unfolding first_after first_mask
-  filled_next {partial} {cost} {k} f row few some masks light h lists low read adds {m} is filled =
+  filled_next {partial} {cost} {k} f row few some masks h low read small adds {m} is filled =
       let there : k < length partial = omega (arith, filled.whole) in
       let stored = take_stored partial k m there in
       let below : m < K = subst⁻¹ (λ (x : ℕ). x < K) is (taken_low f row K some (λ e. subst⁻¹ (λ (x : ℕ). x < K) read (low k h (subst (λ (x : ℕ). not (eqb x unset) ≡ true) read e)))) in
       let cost-here = adds m (omega arith) in
-      let small = filled_small filled m few light h lists in
+      let cheap-here = small m (omega arith) in
       let long : length (take k partial) ≡ k = length-take-le k partial (omega arith) in
       let best = cheapest-same (λ x. get_or row x 0) (add (take k partial)) K (λ x l. adds x (omega arith)) in
       let same : m ≡ pick (take k partial) = is ∙ rw (long, read, best) in

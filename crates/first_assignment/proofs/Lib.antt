@@ -1,3 +1,4 @@
 -- Laws of the first assignment.
+pub mod Any
 pub mod Stored
 pub mod Firsts

@@ -1,0 +1,60 @@
+use native.Mathlib.Omega.{arith}
+use mathlib.Core.Bool.{true, not, cond}
+use mathlib.Core.Path.{◌≡◌, ap, subst, subst⁻¹, ◌∙◌}
+use Prim.Native.Nat.{ℕ, ◌<◌}
+use Rattle.std.proofs.Common.{rules}
+use lib.Dec.{eqb}
+use lib.ListN.{length, get_or}
+use Rattle.rules.specs.Settings.{unset}
+use Rattle.first_assignment.specs.First.{fixed_to}
+use Rattle.first_assignment.proofs.Stored.{fixed_read}
+use Rattle.first_assignment.proofs.Firsts.{cheapest_take, taken, taken_low, filled_none, filled_next, filled_all}
+use Rattle.first_assignment.proofs.first.first_assignment.Goals as goal
+use Rattle.first_assignment.proofs.first.first_assignment.Goals.{After-first_mask-m}
+
+-- where a mask was picked for a place
+module _ (picked : After-first_mask-m) where
+  abbrev byte : ℕ
+  byte = get_or picked.args.fixed.now picked.loop-k.k 0
+
+  -- the byte that was read
+  read : byte ≡ fixed_to picked.args.fixed.now (length picked.args.fixed.now) picked.loop-k.k
+  read = fixed_read picked.args.fixed.now (length picked.args.fixed.now) picked.loop-k.k (omega arith) (omega arith)
+
+  -- the mask by the whole row
+  mask : picked.first_mask-m.result ≡ taken byte picked.added_row-row.result picked.args.masks
+  mask =
+      let eight : length picked.added_row-row.result ≡ 8 = search rules in
+      picked.first_mask-m.ensures
+      ∙ ap (λ (m : ℕ). cond (not (eqb byte unset)) byte m) (cheapest_take picked.added_row-row.result picked.args.masks (omega (arith, picked.requires.size_bound.2)))
+
+  low : picked.first_mask-m.result < 8
+  low =
+      let below = taken_low byte picked.added_row-row.result picked.args.masks picked.requires.size_bound.1
+      (λ e. subst⁻¹ (λ (x : ℕ). x < picked.args.masks) read (picked.requires.fixed_low picked.loop-k.k (omega arith) (subst (λ (x : ℕ). not (eqb x unset) ≡ true) read e))) in
+      omega (arith, mask, below, picked.requires.size_bound.2)
+
+pub loop-k-init : goal.loop-k-init
+loop-k-init c = filled_none c.args.masks c.args.table.now.weight c.args.lists.now.starts c.args.lists.now.entries (fixed_to c.args.fixed.now (length c.args.fixed.now)) (length c.args.fixed.now) c.args.partial.now c.told-partial
+
+pub overflow_cast-partial : goal.overflow_cast-partial
+overflow_cast-partial c = omega (arith, low (goal.at.overflow_cast-partial c).After-first_mask-m)
+
+pub offset_bounds-row-m : goal.offset_bounds-row-m
+offset_bounds-row-m c = omega (arith, low (goal.at.offset_bounds-row-m c).After-first_mask-m)
+
+pub bounds-row-m : goal.bounds-row-m
+bounds-row-m c = low (goal.at.bounds-row-m c).After-first_mask-m
+
+pub loop-k-preserved : goal.loop-k-preserved
+loop-k-preserved c =
+    let a = c.args in
+    let row = c.added_row-row.result in
+    let picked = (goal.at.loop-k-preserved c).After-first_mask-m in
+    let next = filled_next a.masks a.table.now.weight a.lists.now.starts a.lists.now.entries (fixed_to a.fixed.now (length a.fixed.now)) (length a.fixed.now) (byte picked) row
+    c.requires.size_bound.0 c.requires.size_bound.1 c.requires.size_bound.2 (omega arith) c.requires.fixed_low (read picked) c.added_row-row.ensures.small c.added_row-row.ensures.adds (mask picked) c.loop-k.invariant in
+    rw c.from-cost.ensures next
+
+pub returns : goal.returns
+returns c =
+    filled_all c.args.masks c.args.table.now.weight c.args.lists.now.starts c.args.lists.now.entries (fixed_to c.args.fixed.now (length c.args.fixed.now)) (length c.args.fixed.now) (omega arith) c.loop-k.invariant
