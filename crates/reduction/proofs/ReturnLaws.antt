@@ -1,85 +1,101 @@
 -- Putting back one vertex at a time. Neighbours' masks are gathered from a set that loses each neighbour as it is met (`Seen`), the lowest clear bit is
 -- the rules' free mask, and one vertex after the other returns to those present (`Returning`). Assumes nothing.
-use mathlib.Core.Bool.{Bool, true, false, not, ◌&&◌, ◌||◌, cond, and-true, or-true, or-false, or_assoc}
-use mathlib.Core.List.{List, [], ◌∷◌, ◌++◌}
+use mathlib.Core.Bool.{Bool, true, false, not, ◌&&◌, ◌||◌, or-true, or-false, or_assoc}
+use mathlib.Core.List.{List, [], ◌∷◌, ◌++◌, map-append}
 use mathlib.Core.Logic.{◌⊎◌, inl, inr, ⊎_elim}
 use mathlib.Core.Path.{◌≡◌, refl, sym, ap, ◌∙◌}
-use Prim.Native.Nat.{ℕ, suc, ◌-◌, ◌≤◌, ◌<◌, ◌^◌}
+use Prim.Native.Nat.{ℕ, ◌≤◌, ◌<◌, ◌^◌}
 use native.Mathlib.Omega.{arith}
-use lib.Dec.{eqb, ltb}
-use lib.ListN.{length, get_or, set, length-set}
+use lib.Dec.{eqb}
+use lib.ListN.{length, set, length-set}
 use lib.Count.{ones}
 use borrow.Author.Tests.{eqb-true, eq-eqb}
-use Rattle.bitset.specs.Bits.{bit, member, has_edge, both, First, Lowest, WithMask}
+use Rattle.std.proofs.lemmas.List.{nil_from_length}
+use Rattle.std.proofs.lemmas.List.Elements.{All-weaker, All-pop}
+use Rattle.std.specs.Prelude as std
+use Rattle.std.specs.Prelude.{None, Some}
+use Rattle.bitset.specs.Bits.{bit, member, has_edge, both, Taken, Lowest, WithMask}
 use Rattle.bitset.proofs.Counts.{count_in, count_le, count_bits, count_missing}
 use Rattle.bitset.proofs.Words.{bit_of_zero}
 use Rattle.rules.specs.Basics.{up_to, any_of, found_or, without}
 use Rattle.rules.specs.Edges.{Graph, in_conflict}
 use Rattle.rules.specs.Score.{mask_of}
-use Rattle.rules.specs.Peeling.{Removal}
+use Rattle.rules.specs.Peeling as rules
 use Rattle.rules.specs.Decomposition.{Placed, free_mask, put_back, put_back_all}
-use Rattle.rules.proofs.Lists.{◌∈◌, here, later, here-or-later, set_each, Same, any_same, out_any, length_without}
+use Rattle.rules.proofs.Lists.{◌∈◌, here, later, here-or-later, set_each, Same, any_in, in_any, any_out, any_same, out_any}
 use Rattle.rules.proofs.Finding.{find_up_to, find_none_up_to, find_same, any_members, any_without}
-use Rattle.rules.proofs.Tests.{by_test, and_left, and_right, or_either, eqb_sym}
+use Rattle.rules.proofs.Tests.{by_test, clash, and_left, and_right, or_either, eqb_sym}
 use Rattle.adjacency.specs.Adjacency.{word_graph}
 use Rattle.adjacency.specs.Members.{members_of}
 use Rattle.adjacency.proofs.AdjacencyLaws.{given_test}
-use Rattle.adjacency.proofs.MemberLaws.{in_members, members_distinct, members_out}
-use Rattle.reduction.specs.Removals.{removal_at, removals_of}
-use Rattle.reduction.specs.Returning.{takes, InUse, FreeIn, ReturnsWith, Masked, PutBack}
+use Rattle.adjacency.proofs.MemberLaws.{in_members, members_out}
+use Rattle.reduction.specs.declared.peeling.Removal.{Removal}
+use Rattle.reduction.specs.Removals.{went, removal_at, removals_of}
+use Rattle.reduction.specs.Returning.{takes, InUse, FreeIn, mask_back, ReturnsWith, Masked, HasPlace, Placeable, PutBack}
 
 -- ---- the masks in use
 
--- the masks in `used`, and those of the neighbours that are left, are those of all neighbours
+-- the masks in `used`, and those of the neighbours still to come, are those of all neighbours
 pub record Seen (words there masks rest : List ℕ) (v used : ℕ) : Type 0 where
   pub bits : (m : ℕ) → (bit used m || any_of (takes words masks v m) (members_of rest)) ≡ any_of (takes words masks v m) (members_of there)
   pub small : used < 2 ^ 8
-  pub inside : (k : ℕ) → member rest k ≡ true → member there k ≡ true
+  pub inside : (k : ℕ) → k < 512 → member rest k ≡ true → both words v there k ≡ true
 
-pub seen_none : (words there masks : List ℕ) (v : ℕ) → Seen words there masks there v 0
-seen_none words there masks v = record { bits = λ m. rw (bit_of_zero m); small = omega arith; inside = λ k e. e }
+pub seen_none : (words there masks rest : List ℕ) (v : ℕ) → ((k : ℕ) → member rest k ≡ both words v there k) → Seen words there masks rest v 0
+seen_none words there masks rest v near = record {
+  bits = λ m. rw (bit_of_zero m) (by_test (any_of (takes words masks v m) (members_of there)) (λ e. here m e ∙ sym e) (λ e. out m e ∙ sym e));
+  small = omega arith;
+  inside = λ k l e. sym (near k) ∙ e;
+}
+  where
+    -- a neighbour there with the mask is one of those to come
+    here : (m : ℕ) → any_of (takes words masks v m) (members_of there) ≡ true → any_of (takes words masks v m) (members_of rest) ≡ true
+    here m e =
+        let f = any_in (takes words masks v m) (members_of there) e in
+        let r = (in_members there f.0).0 f.1 in
+        let joined : has_edge words v f.0 ≡ true = and_left (has_edge words v f.0) (eqb (mask_of masks f.0) m) f.2 in
+        in_any (takes words masks v m) ((in_members rest f.0).1 (r.0, near f.0 ∙ rw (joined, r.1))) f.2
 
-module _ (words there masks rest : List ℕ) (v used u : ℕ) (seen : Seen words there masks rest v used) (first : First (both words v rest) u) where
-  pub seen_all : u ≡ 512 → InUse words there masks v used
-  seen_all e = record { bits = λ m. sym (or-false (bit used m)) ∙ ap (λ (b : Bool). bit used m || b) (sym (none_left m)) ∙ seen.bits m; small = seen.small }
+    out : (m : ℕ) → any_of (takes words masks v m) (members_of there) ≡ false → any_of (takes words masks v m) (members_of rest) ≡ false
+    out m e = out_any (takes words masks v m) (members_of rest) λ u i.
+        let r = (in_members rest u).0 i in
+        let n = sym (near u) ∙ r.1 in
+        any_out (takes words masks v m) (members_of there) e u ((in_members there u).1 (r.0, and_right (has_edge words v u) (member there u) n))
+
+module _ {words there masks rest : List ℕ} {v used : ℕ} (seen : Seen words there masks rest v used) where
+  pub seen_all : ((k : ℕ) → k < 512 → member rest k ≡ false) → InUse words there masks v used
+  seen_all none = record { bits = λ m. sym (or-false (bit used m)) ∙ ap (λ (b : Bool). bit used m || b) (sym (none_left m)) ∙ seen.bits m; small = seen.small }
     where
       none_left : (m : ℕ) → any_of (takes words masks v m) (members_of rest) ≡ false
       none_left m = out_any (takes words masks v m) (members_of rest) λ w i.
-          let r = (in_members rest w).0 i in
-          let apart : has_edge words v w ≡ false = sym (and-true (has_edge words v w)) ∙ rw r.1 at (first.before w (omega arith)) in
-          rw apart
+          let r = (in_members rest w).0 i in clash r.1 (none w r.0)
 
-  module _ (met : u ≡ 512 → ⊥) where
-    pub met_small : u < 512
-    met_small = omega (arith, first.within)
+  module _ {u : ℕ} {rest' : List ℕ} (taken : Taken rest u rest') where
+    met : member rest u ≡ true
+    met = taken.first.found taken.small
 
-    joined : (has_edge words v u ≡ true) × (member rest u ≡ true)
-    joined =
-        let f = first.found met_small in
-        (and_left (has_edge words v u) (member rest u) f, and_right (has_edge words v u) (member rest u) f)
+    near : both words v there u ≡ true
+    near = seen.inside u taken.small met
 
     pub met_there : member there u ≡ true
-    met_there = seen.inside u joined.1
+    met_there = and_right (has_edge words v u) (member there u) near
 
-    pub seen_more : {rest' : List ℕ} {used' : ℕ} → WithMask used (mask_of masks u) used' → ((k : ℕ) → member rest' k ≡ (member rest k && not (eqb k u)))
-        → (Seen words there masks rest' v used') × (length (members_of rest') < length (members_of rest))
-    seen_more {rest'} {used'} more out =
-        let is-left : u ∈ members_of rest = (in_members rest u).1 (met_small, joined.1) in
-        let left : members_of rest' ≡ without u (members_of rest) = members_out rest rest' u out in
-        let fewer : suc (length (members_of rest')) ≡ length (members_of rest) = rw left (length_without is-left (members_distinct rest)) in
+    pub seen_more : {used' : ℕ} → WithMask used (mask_of masks u) used' → Seen words there masks rest' v used'
+    seen_more {used'} more =
+        let is-left : u ∈ members_of rest = (in_members rest u).1 (taken.small, met) in
+        let left : members_of rest' ≡ without u (members_of rest) = members_out rest rest' u taken.out in
+        let joined : has_edge words v u ≡ true = and_left (has_edge words v u) (member there u) near in
         let one : (m : ℕ) → any_of (takes words masks v m) (members_of rest) ≡ (eqb m (mask_of masks u) || any_of (takes words masks v m) (members_of rest'))
-        = λ m. rw (left, eqb_sym m (mask_of masks u)) (any_without (takes words masks v m) is-left ∙ rw joined.0) in (
-          record {
-            bits = λ m.
-                rw (more.bits m)
-                (or_assoc (bit used m) (eqb m (mask_of masks u)) (any_of (takes words masks v m) (members_of rest'))
-                ∙ ap (λ (b : Bool). bit used m || b) (sym (one m))
-                ∙ seen.bits m);
-            small = more.small seen.small;
-            inside = λ k e. seen.inside k (and_left (member rest k) (not (eqb k u)) (sym (out k) ∙ e));
-          },
-          omega arith,
-        )
+        = λ m. rw (left, eqb_sym m (mask_of masks u)) (any_without (takes words masks v m) is-left ∙ rw joined) in
+        record {
+          bits = λ m.
+              rw (more.bits m)
+              (or_assoc (bit used m) (eqb m (mask_of masks u)) (any_of (takes words masks v m) (members_of rest'))
+              ∙ ap (λ (b : Bool). bit used m || b) (sym (one m))
+              ∙ seen.bits m);
+          small = more.small seen.small;
+          inside = λ k l e. seen.inside k l (and_left (member rest k) (not (eqb k u)) (sym (taken.out k) ∙ e));
+        }
 
 -- ---- the lowest free mask
 
@@ -126,44 +142,47 @@ free_in_use K words there masks v x r used free stitches =
 
 -- ---- how far putting back is
 
-pub record Returning (K : ℕ) (words vertices neighbours : List ℕ) (n : ℕ) (start before there masks : List ℕ) (i : ℕ) : Type 0 where
+-- the removals still to return make of those present now what all of them make of those present at the start
+pub record Returning (K : ℕ) (words : List ℕ) (all left : List Removal) (start before there masks : List ℕ) : Type 0 where
   pub present : List ℕ
   pub same : Same present (members_of there)
   pub rest : (stitches : List ℕ)
       → let g = word_graph words stitches in
-      put_back_all K g (removals_of n vertices neighbours) (record { there = members_of start; masks = before })
-      ≡ put_back_all K g (removals_of i vertices neighbours) (record { there = present; masks = masks })
+      put_back_all K g (removals_of all) (record { there = members_of start; masks = before })
+      ≡ put_back_all K g (removals_of left) (record { there = present; masks = masks })
   pub size : length masks ≡ length before
   pub masked : Masked there masks
+  pub placeable : Placeable left masks
 
-pub returning_none : (K : ℕ) (words vertices neighbours : List ℕ) (n : ℕ) {start before : List ℕ} → Masked start before
-    → Returning K words vertices neighbours n start before start before n
-returning_none K words vertices neighbours n {start} masked = record {
+pub returning_none : (K : ℕ) (words : List ℕ) (all : List Removal) {start before : List ℕ} → Placeable all before → Masked start before → Returning K words all all start before start before
+returning_none K words all {start} placeable masked = record {
   present = members_of start;
   same = λ u. (λ i. i, λ i. i);
   rest = λ stitches. refl;
   size = refl;
   masked = masked;
+  placeable = placeable;
 }
 
-pub returning_all : {K : ℕ} {words vertices neighbours : List ℕ} {n : ℕ} {start before there masks : List ℕ} {i : ℕ}
-    → Returning K words vertices neighbours n start before there masks i → i ≡ 0 → PutBack K words vertices neighbours n start before masks
-unfolding removals_of put_back_all
-returning_all r e = record {
-  masks = λ stitches. sym (ap (λ (a : Placed). a.masks) (rw e at (r.rest stitches)));
+pub returning_all : {K : ℕ} {words : List ℕ} {all left : List Removal} {start before there masks : List ℕ}
+    → Returning K words all left start before there masks → length left ≡ 0 → PutBack K words all start before masks
+unfolding put_back_all
+returning_all {left = left} r e = record {
+  masks = λ stitches. sym (ap (λ (a : Placed). a.masks) (rw (nil_from_length left e) at (r.rest stitches)));
   size = r.size;
   low = r.masked.low;
 }
 
-put_back_snoc : (K : ℕ) (g : Graph) (rs : List Removal) (r : Removal) (a : Placed) → put_back_all K g (rs ++ (r ∷ [])) a ≡ put_back_all K g rs (put_back K g r a)
+put_back_snoc : (K : ℕ) (g : Graph) (rs : List rules.Removal) (r : rules.Removal) (a : Placed) → put_back_all K g (rs ++ (r ∷ [])) a ≡ put_back_all K g rs (put_back K g r a)
 unfolding put_back_all
 put_back_snoc K g [] r a = refl
 put_back_snoc K g (q ∷ rs) r a = ap (put_back K g q) (put_back_snoc K g rs r a)
 
-put_one : (K : ℕ) (g : Graph) (v u m : ℕ) (a : Placed) → m ≡ cond (ltb u 512) (mask_of a.masks u) (free_mask K g a v)
-    → put_back K g (removal_at v u) a ≡ record { there = v ∷ a.there; masks = set a.masks v m }
+put_one : (K : ℕ) (g : Graph) (v : ℕ) (o : std.Option ℕ) (m : ℕ) (a : Placed) → m ≡ mask_back K g a.there a.masks v o
+    → put_back K g (went v o) a ≡ record { there = v ∷ a.there; masks = set a.masks v m }
 unfolding put_back
-put_one K g v u m a e = rw e (by_test (ltb u 512) (λ t. rw (t, put_back)) (λ t. rw (t, put_back)))
+put_one K g v None m a e = rw e
+put_one K g v (Some u) m a e = rw e
 
 module _ (there there' : List ℕ) (v : ℕ) (put : (k : ℕ) → member there' k ≡ (member there k || eqb k v)) where
   put_cases : (k : ℕ) → member there' k ≡ true → (member there k ≡ true) ⊎ (k ≡ v)
@@ -184,34 +203,42 @@ module _ (there there' : List ℕ) (v : ℕ) (put : (k : ℕ) → member there' 
     low = set_each (λ x. x < 8) masks v m h old.low;
   }
 
+-- places do not go when a mask is written
+placed_still : {masks after : List ℕ} → length after ≡ length masks → (rs : List Removal) → Placeable rs masks → Placeable rs after
+placed_still {masks} {after} e rs = All-weaker (HasPlace masks) (HasPlace after)
+    (λ r p. record { small = p.small; vertex = omega (arith, p.vertex); neighbour = λ u q. omega (arith, p.neighbour u q) }) rs
+
 -- one vertex returns: the last of those that are left
-module _ {K : ℕ} {words vertices neighbours : List ℕ} {n : ℕ} {start before there masks : List ℕ} {i : ℕ}
-    (r : Returning K words vertices neighbours n start before there masks i) (some_left : 0 < i) where
-  pub returning_more : {there' : List ℕ} {v u m : ℕ} → v ≡ get_or vertices (i - 1) 0 → u ≡ get_or neighbours (i - 1) 0 → v < 512 → v < length masks
-      → ReturnsWith K words there masks v u m → ((k : ℕ) → member there' k ≡ (member there k || eqb k v))
-      → Returning K words vertices neighbours n start before there' (set masks v m) (i - 1)
-  unfolding removals_of
-  returning_more {there'} {v} {u} {m} isV isU small placed with put =
-      let last : i ≡ suc (i - 1) = omega arith in
-      let left : removals_of i vertices neighbours ≡ removals_of (i - 1) vertices neighbours ++ (removal_at v u ∷ [])
-      = ap (λ (k : ℕ). removals_of k vertices neighbours) last ∙ rw (isV, isU) in
-      record {
-        present = v ∷ r.present;
-        same = present_more there there' v put small r.same;
-        rest = λ stitches.
-            let g = word_graph words stitches in
-            let mask : m ≡ cond (ltb u 512) (mask_of masks u) (free_mask K g (record { there = r.present; masks = masks }) v)
-            = with.mask stitches ∙ ap (cond (ltb u 512) (mask_of masks u)) (free-same stitches v) in
-            r.rest stitches
-            ∙ ap (λ (rs : List Removal). put_back_all K g rs (record { there = r.present; masks = masks })) left
-            ∙ put_back_snoc K g (removals_of (i - 1) vertices neighbours) (removal_at v u) (record { there = r.present; masks = masks })
-            ∙ ap (put_back_all K g (removals_of (i - 1) vertices neighbours)) (put_one K g v u m (record { there = r.present; masks = masks }) mask);
-        size = length-set masks v m ∙ r.size;
-        masked = masked_more there there' v put m placed with.small r.masked;
-      }
+module _ {K : ℕ} {words : List ℕ} {all left : List Removal} (earlier : List Removal) {r : Removal} {start before there masks : List ℕ}
+    (returning : Returning K words all left start before there masks) (last : left ≡ earlier ++ (r ∷ [])) where
+  split : (Placeable earlier masks) × (HasPlace masks r)
+  split = All-pop (HasPlace masks) left earlier (Some r) last returning.placeable
+
+  pub last_placed : HasPlace masks r
+  last_placed = split.1
+
+  pub returning_more : {there' : List ℕ} {m : ℕ} → ReturnsWith K words there masks r m → ((k : ℕ) → member there' k ≡ (member there k || eqb k r.vertex))
+      → Returning K words all earlier start before there' (set masks r.vertex m)
+  returning_more {there'} {m} with put = record {
+    present = r.vertex ∷ returning.present;
+    same = present_more there there' r.vertex put last_placed.small returning.same;
+    rest = λ stitches.
+        let g = word_graph words stitches in
+        let a : Placed = record { there = returning.present; masks = masks } in
+        let mask : m ≡ mask_back K g returning.present masks r.vertex r.neighbour = with.mask stitches ∙ back_same stitches r.neighbour in
+        returning.rest stitches
+        ∙ ap (λ (rs : List Removal). put_back_all K g (removals_of rs) a) last
+        ∙ ap (λ (rs : List rules.Removal). put_back_all K g rs a) (map-append removal_at earlier (r ∷ []))
+        ∙ put_back_snoc K g (removals_of earlier) (removal_at r) a
+        ∙ ap (put_back_all K g (removals_of earlier)) (put_one K g r.vertex r.neighbour m a mask);
+    size = length-set masks r.vertex m ∙ returning.size;
+    masked = masked_more there there' r.vertex put m last_placed.vertex with.small returning.masked;
+    placeable = placed_still (length-set masks r.vertex m) earlier split.0;
+  }
     where
-      free-same : (stitches : List ℕ) (v : ℕ) → let g = word_graph words stitches in
-          free_mask K g (record { there = members_of there; masks = masks }) v ≡ free_mask K g (record { there = r.present; masks = masks }) v
-      free-same stitches v =
+      back_same : (stitches : List ℕ) (o : std.Option ℕ) → let g = word_graph words stitches in
+          mask_back K g (members_of there) masks r.vertex o ≡ mask_back K g returning.present masks r.vertex o
+      back_same stitches None =
           let g = word_graph words stitches in
-          ap (found_or 0) (find_same _ _ (up_to K) (λ m i. ap not (sym (any_members (λ u. in_conflict g v u && eqb (mask_of masks u) m) r.present (members_of there) r.same))))
+          ap (found_or 0) (find_same _ _ (up_to K) (λ m i. ap not (sym (any_members (λ u. in_conflict g r.vertex u && eqb (mask_of masks u) m) returning.present (members_of there) returning.same))))
+      back_same stitches (Some u) = refl

@@ -1,9 +1,9 @@
-// Peeling and putting back (RULES 4 and 7) on adjacency words. The vertices that are there are a bit set. What is removed
-// is stored in two arrays, a vertex and its stitch neighbour, so that it can return in reverse order.
+// Peeling and putting back (RULES 4 and 7) on adjacency words. The vertices that are there are a bit set. What is removed is listed, a vertex and its stitch
+// neighbour, so that it can return in reverse order. The list has room for every vertex and no memory of its own.
 #![tactic(auto)]
 
 mod peeling;
 mod putting_back;
 
-pub use peeling::peel;
+pub use peeling::{Removal, peel};
 pub use putting_back::put_back;

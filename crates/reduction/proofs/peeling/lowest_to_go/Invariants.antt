@@ -10,7 +10,7 @@ use Rattle.adjacency.specs.UnitGraph.{fixed_at}
 use Rattle.reduction.proofs.peeling.lowest_to_go.Given as goal
 
 abbrev pub invariant-loop-i : goal.invariant-loop-i
-invariant-loop-i l = (l.i ≤ 512) × ((k : ℕ) → k < l.i → (member l.there k && may_go l.masks (word_graph l.conflicts l.stitches) (fixed_at l.fixed) (members_of l.there) k) ≡ false)
+invariant-loop-i l = (l.i ≤ 512) × ((k : ℕ) → k < l.i → (member l.there k && may_go l.masks (word_graph l.edges.conflicts l.edges.stitches) (fixed_at l.fixed) (members_of l.there) k) ≡ false)
 
 abbrev pub decreases-loop-i : goal.decreases-loop-i
 decreases-loop-i l = 512 - l.i

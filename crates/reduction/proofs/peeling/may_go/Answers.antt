@@ -11,16 +11,16 @@ use Rattle.reduction.proofs.peeling.may_go.Goals.{Start}
 
 -- the byte that is read is the fixed mask
 read : (c : Start) → get_or c.args.fixed.now c.args.v 0 ≡ fixed_at c.args.fixed.now c.args.v
-read c = default_same c.args.fixed.now c.args.v 0 unset (omega (arith, c.requires.0))
+read c = default_same c.args.fixed.now c.args.v 0 unset (omega arith)
 
 pub returns-then-fixed-v : goal.returns-then-fixed-v
 returns-then-fixed-v c = go_fixed _ _ _ _ _ (λ e. c.if-fixed-v.true (read (goal.at.returns-then-fixed-v c).Start ∙ e))
 
-pub returns-then-stitched-eq0 : goal.returns-then-stitched-eq0
-returns-then-stitched-eq0 c = go_unstitched _ _ _ _ _ _ _ _ c.intersection_size-near.ensures c.intersection_size-stitched.ensures (sym (read (goal.at.returns-then-stitched-eq0 c).Start) ∙ c.if-fixed-v.false) c.if-stitched-eq0.true
+pub returns-in-0 : goal.returns-in-0
+returns-in-0 c = go_unstitched _ _ _ _ _ _ _ _ c.degree_in-near.ensures c.degree_in.ensures (sym (read (goal.at.returns-in-0 c).Start) ∙ c.if-fixed-v.false) c.in-0.is
 
-pub returns-then-stitched-eq1 : goal.returns-then-stitched-eq1
-returns-then-stitched-eq1 c = go_pendant _ _ _ _ _ _ _ _ c.intersection_size-near.ensures c.intersection_size-stitched.ensures (sym (read (goal.at.returns-then-stitched-eq1 c).Start) ∙ c.if-fixed-v.false) c.if-stitched-eq1.true
+pub returns-in-1 : goal.returns-in-1
+returns-in-1 c = go_pendant _ _ _ _ _ _ _ _ c.degree_in-near.ensures c.degree_in.ensures (sym (read (goal.at.returns-in-1 c).Start) ∙ c.if-fixed-v.false) c.in-1.is
 
-pub returns : goal.returns
-returns c = go_never _ _ _ _ _ _ _ _ c.intersection_size-near.ensures c.intersection_size-stitched.ensures (sym (read (goal.at.returns c).Start) ∙ c.if-fixed-v.false) c.if-stitched-eq0.false c.if-stitched-eq1.false
+pub returns-in_default : goal.returns-in_default
+returns-in_default c = go_never _ _ _ _ _ _ _ _ c.degree_in-near.ensures c.degree_in.ensures (sym (read (goal.at.returns-in_default c).Start) ∙ c.if-fixed-v.false) (λ e. omega arith) (λ e. omega arith)
