@@ -14,7 +14,7 @@ use lib.Seq.{get_or-set_same, get_or-set_other}
 use lib.Bits.{bit_and, bit_or}
 use borrow.Author.Tests.{eq-eqb, ne_eqb, lt-ltb, le-ltb}
 use Rattle.std.proofs.lemmas.List.{get_or_append_left, get_or-append_right, get_or-drop}
-use Rattle.bitset.specs.Bits.{bit, member, has_edge, both, rows_without, count_below}
+use Rattle.bitset.specs.Bits.{bit, member, has_edge, both, rows_without, count_below, LowestSet, Dropped}
 use Rattle.bitset.proofs.Counts.{count_add, count_ext}
 use Rattle.bitset.proofs.Words.{bit-and, bit-or, bit_not, bit_shl, bit_ones, bit_of_zero}
 
@@ -169,6 +169,9 @@ module _ (s : List ℕ) (w p j : ℕ) (l : w < length s) (h : p < 64) (e : 64 * 
   member_out =
       member_store (λ a b. a && not b) and-true _
       (λ i m. bit-and (get_or s w 0) _ i ∙ rw (bit_not 64 ((1 * 2 ^ p) % 2 ^ 64) i (omega arith) m, bit_shl 64 p i h))
+
+  pub member_drop : (v : ℕ) → Dropped (get_or s w 0) v → LowestSet (get_or s w 0) p → (k : ℕ) → member (set s w v) k ≡ (member s k && not (eqb k j))
+  member_drop v dropped low = member_store (λ a b. a && not b) and-true v (λ i m. dropped.bits p low i)
 
 -- ---- a bit of a matrix is one number: its row and its place there
 

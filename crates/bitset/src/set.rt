@@ -4,7 +4,7 @@ ghost use Rattle.std.specs.Prelude.{◌≡◌, ◌&&◌, ◌||◌, not, List, �
 ghost use Rattle.std.specs.Iterator.{at_most};
 ghost use Rattle.bitset.specs.Bits.{member, count_below, Empty, Size, Least, TakesLeast};
 
-use crate::{lowest_bit, minus, ones};
+use crate::{drop_lowest, lowest_bit, minus, ones};
 use std::array;
 use std::marker::Model;
 
@@ -95,9 +95,14 @@ impl BitSet {
     pub fn take_lowest(&mut self) -> Option<usize>
         ensures { TakesLeast self.old result self.new }
     {
-        let i = self.lowest()?;
-        self.take_out(i);
-        Some(i)
+        for w in 0..8 {
+            let word = self.words[w];
+            if word != 0 {
+                self.words[w] = drop_lowest(word);
+                return Some(64 * w + lowest_bit(word));
+            }
+        }
+        None
     }
 
     // The members of either set.
