@@ -5,8 +5,10 @@
 // Contracts see a set or a matrix as the list of its words, and say what is a member afterwards, for every number, so no
 // caller looks at words.
 //
-// A loop over a set is `for v in set.members()`. Its invariant reads what is left of the set as `l.v-iterator`, which begins
-// as the set and ends with no member, so the loop needs no measure.
+// A loop over a set is `for v in set.members()`, and over a row `for v in matrix.neighbours_in(i, &set).members()`. Its
+// invariant reads what is left as `l.v-iterator`, which begins as the set and ends with no member, so the loop needs no
+// measure. In an answer `c.in-Some.ensures.steps` says that v was taken out of `c.loop-v.v-iterator` (a `Taken`), which leaves
+// `c.next.new.self`, and `c.in-None.ensures.steps.0` that no member was left.
 #![tactic(auto)]
 
 ghost use Rattle.std.specs.Prelude.{◌≡◌, ◌&&◌, ◌||◌, not, false, ℕ, ◌<◌, ◌≤◌, eqb, ltb};
