@@ -17,7 +17,7 @@ use Rattle.rules.specs.declared.layer.Settings.{Settings}
 use Rattle.rules.specs.declared.layer.Piece.{Piece}
 use Rattle.rules.specs.Basics.{given}
 use Rattle.rules.specs.Settings.{piece_at}
-use Rattle.rules.specs.Edges.{conflict_edge, stitch_edge, tied, graph_of}
+use Rattle.rules.specs.Edges.{graph_of}
 use Rattle.rules.specs.Questions.{Valid}
 use Rattle.adjacency.specs.Adjacency.{conflict_of, stitch_of, tie_of, is_pair, in_row, RowTo, Holds, Adjacency, Ties, BothWays}
 use Rattle.rules.proofs.Edges.{undirected, no_self_conflict, no_self_stitch, no_self_tie}

@@ -7,7 +7,7 @@ use native.Mathlib.Omega.{arith}
 use borrow.Author.Tests.{lt-ltb}
 use Rattle.rules.specs.declared.layer.Piece.{Piece}
 use Rattle.rules.specs.declared.layer.Edge.{Edge}
-use Rattle.rules.specs.Settings.{settings_in_range, piece_in_range}
+use Rattle.rules.specs.Settings.{settings_in_range}
 use Rattle.rules.specs.Edges.{gap_x, gap_y, edge_of}
 use Rattle.rules.proofs.Edges.{far_in_x, far_in_y}
 use Rattle.rules.proofs.Ranges.{piece_facts}

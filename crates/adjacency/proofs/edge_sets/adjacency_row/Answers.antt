@@ -1,4 +1,4 @@
-use Rattle.std.proofs.Common.{◌≡◌, ◌<◌, ◌∙◌, arith}
+use Rattle.std.proofs.Common.{◌≡◌, ◌<◌, arith}
 use lib.Seq.{get_or-take, length-take-le}
 use Rattle.rules.specs.Edges.{edge_of}
 use Rattle.rules.specs.Settings.{no_piece, piece_at}

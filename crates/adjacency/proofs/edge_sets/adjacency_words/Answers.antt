@@ -1,7 +1,7 @@
 use Rattle.std.proofs.Common.{◌≡◌, length, arith}
 use Rattle.rules.proofs.Reading.{few}
 use Rattle.rules.proofs.Validity.{valid_sound}
-use Rattle.adjacency.proofs.AdjacencyLaws.{rows_none, rows_more, rows_adjacency, rows_ties}
+use Rattle.adjacency.proofs.AdjacencyLaws.{rows_none, rows_adjacency, rows_ties}
 use Rattle.adjacency.proofs.edge_sets.adjacency_words.Goals as goal
 
 pub loop-j-init : goal.loop-j-init

@@ -1,4 +1,4 @@
-use Rattle.adjacency.proofs.TieLaws.{whole_none, whole_more, whole_ties}
+use Rattle.adjacency.proofs.TieLaws.{whole_none}
 use Rattle.adjacency.proofs.ties.tie_words.Goals as goal
 
 pub loop-j-init : goal.loop-j-init
