@@ -1,6 +1,6 @@
 -- Merging adjacency words, one edge after the other (`MergingRow`) and one row after the other (`MergedRows`). Each edge is met once, from its greater piece, and
 -- joins its units both ways. So all rows together join the units that have an edge between them. Assumes nothing.
-use mathlib.Core.Bool.{Bool, true, false, not, ◌&&◌, ◌||◌, and-true, or-false, or_assoc}
+use mathlib.Core.Bool.{Bool, true, false, not, ◌&&◌, ◌||◌, or-false, or_assoc}
 use mathlib.Core.List.{List}
 use mathlib.Core.Logic.{⊎_elim}
 use mathlib.Core.Path.{◌≡◌, refl, sym, ap, ◌∙◌}
@@ -8,16 +8,16 @@ use Prim.Native.Nat.{ℕ, ◌+◌, ◌≤◌, ◌<◌}
 use native.Mathlib.Omega.{arith}
 use lib.Dec.{eqb, ltb}
 use lib.ListN.{replicate}
-use borrow.Author.Tests.{eqb-true, eqb-false, eq-eqb, ne_eqb, ltb-true, not-true}
-use Rattle.bitset.specs.Bits.{member, has_edge, both as inRowAndSet, First}
+use borrow.Author.Tests.{eqb-true, eqb-false, eq-eqb, ne_eqb, ltb-true, lt-ltb, not-true}
+use Rattle.bitset.specs.Bits.{member, has_edge, both as inRowAndSet, Taken}
 use Rattle.bitset.proofs.Sets.{member_none}
 use Rattle.rules.specs.Basics.{up_from, up_to, any_of}
 use Rattle.rules.proofs.Lists.{any_in, in_any, any_next, out_any, in_up_to}
 use Rattle.rules.proofs.Finding.{any_without}
-use Rattle.rules.proofs.Tests.{both, or_either, same, lt_or_ge}
+use Rattle.rules.proofs.Tests.{both, clash, or_either, same, lt_or_ge}
 use Rattle.adjacency.specs.Members.{members_of}
 use Rattle.adjacency.specs.UnitGraph.{unit_at}
-use Rattle.adjacency.proofs.MemberLaws.{in_members, members_below, members_out}
+use Rattle.adjacency.proofs.MemberLaws.{in_members, members_out}
 use Rattle.adjacency.specs.Adjacency.{BothWays}
 use Rattle.units.specs.Merged.{Merged}
 use Rattle.units.specs.Steps.{two_units, joins_units, MergedRow}
@@ -25,55 +25,56 @@ use Rattle.units.proofs.UnitNeighbours.{UnitEdge, unit_edge, other_way, unit_edg
 
 -- ---- one row
 
--- the edges to the pieces in `rest` have yet to be met
+-- the edges to the neighbours in `rest` have yet to be met
 pub record MergingRow (words units : List ℕ) (j : ℕ) (before after rest : List ℕ) : Type 0 where
   pub bits : (a b : ℕ) → b < 512
-      → (has_edge after a b || any_of (joins_units words units a b j) (members_of rest)) ≡ (has_edge before a b || any_of (joins_units words units a b j) (up_to j))
+      → (has_edge after a b || any_of (λ i. two_units (unit_at units i) (unit_at units j) a b) (members_of rest))
+      ≡ (has_edge before a b || any_of (joins_units words units a b j) (up_to j))
   pub within : (k : ℕ) → member rest k ≡ true → k < j
 
-pub row_none : (words units : List ℕ) (j : ℕ) (before rest : List ℕ) → j ≤ 512 → ((k : ℕ) → member rest k ≡ ltb k j) → MergingRow words units j before before rest
-row_none words units j before rest l below = record {
-  bits = λ a b h. rw (members_below rest j l below);
-  within = λ k e. ltb-true k j (sym (below k) ∙ e);
-}
+module _ (words units : List ℕ) (j : ℕ) (small : j < 512) (below rest : List ℕ) (numbers : (k : ℕ) → member below k ≡ ltb k j)
+    (near : (k : ℕ) → member rest k ≡ inRowAndSet words j below k) where
+  -- the neighbours before piece j
+  row_neighbour : (k : ℕ) → member rest k ≡ true → (has_edge words j k ≡ true) × (k < j)
+  row_neighbour k e = let (edge, m) = both (has_edge words j k) (member below k) (sym (near k) ∙ e) in (edge, ltb-true k j (sym (numbers k) ∙ m))
+
+  row_joins : (a b : ℕ) → any_of (λ i. two_units (unit_at units i) (unit_at units j) a b) (members_of rest) ≡ any_of (joins_units words units a b j) (up_to j)
+  row_joins a b = same _ _
+      (λ e.
+      let (i, m, t) = any_in _ (members_of rest) e in
+      let (edge, l) = row_neighbour i ((in_members rest i).0 m).1 in
+      in_any _ ((in_up_to j i).1 l) (rw (edge, t)))
+      (λ e.
+      let (i, m, t) = any_in _ (up_to j) e in
+      let l = (in_up_to j i).0 m in
+      let (edge, two) = both (has_edge words j i) _ t in
+      in_any _ ((in_members rest i).1 (omega arith, near i ∙ rw (edge, numbers i, lt-ltb i j l))) two)
+
+  pub row_none : (before : List ℕ) → MergingRow words units j before before rest
+  row_none before = record { bits = λ a b h. rw (row_joins a b); within = λ k e. (row_neighbour k e).1 }
 
 module _ {words units : List ℕ} {j : ℕ} {before after rest : List ℕ} (row : MergingRow words units j before after rest) where
   -- none is left
-  pub row_all : First (inRowAndSet words j rest) 512 → MergedRow words units j before after
-  row_all first = record { bits = λ a b h. sym (or-false (has_edge after a b)) ∙ ap (λ (t : Bool). has_edge after a b || t) (sym (none a b)) ∙ row.bits a b h }
+  pub row_all : ((k : ℕ) → k < 512 → member rest k ≡ false) → MergedRow words units j before after
+  row_all none = record { bits = λ a b h. sym (or-false (has_edge after a b)) ∙ ap (λ (t : Bool). has_edge after a b || t) (sym (out a b)) ∙ row.bits a b h }
     where
-      none : (a b : ℕ) → any_of (joins_units words units a b j) (members_of rest) ≡ false
-      none a b = out_any (joins_units words units a b j) (members_of rest) λ i m.
-          let (l, e) = (in_members rest i).0 m in
-          let apart : has_edge words j i ≡ false = sym (and-true (has_edge words j i)) ∙ rw e at (first.before i l) in
-          rw apart
+      out : (a b : ℕ) → any_of (λ i. two_units (unit_at units i) (unit_at units j) a b) (members_of rest) ≡ false
+      out a b = out_any _ (members_of rest) (λ i m. let (l, e) = (in_members rest i).0 m in clash e (none i l))
 
-  module _ (i : ℕ) (small : i < 512) (first : First (inRowAndSet words j rest) i) where
-    met : (has_edge words j i ≡ true) × (member rest i ≡ true)
-    met = both (has_edge words j i) (member rest i) (first.found small)
-
-    pub row_met : member rest i ≡ true
-    row_met = met.1
-
-    -- the piece that was met stands before j
-    pub row_before : i < j
-    row_before = row.within i met.1
-
+  module _ {i : ℕ} {rest' : List ℕ} (taken : Taken rest i rest') where
     -- its edge is merged
-    pub row_next : (after' rest' : List ℕ)
-        → ((a b : ℕ) → b < 512 → has_edge after' a b ≡ (has_edge after a b || two_units (unit_at units i) (unit_at units j) a b))
-        → ((k : ℕ) → member rest' k ≡ (member rest k && not (eqb k i)))
+    pub row_next : {after' : List ℕ} → ((a b : ℕ) → b < 512 → has_edge after' a b ≡ (has_edge after a b || two_units (unit_at units i) (unit_at units j) a b))
         → MergingRow words units j before after' rest'
-    row_next after' rest' more out = record {
+    row_next {after'} more = record {
       bits = λ a b h.
-          let f = joins_units words units a b j in
-          let split : any_of f (members_of rest) ≡ (two_units (unit_at units i) (unit_at units j) a b || any_of f (members_of rest'))
-          = any_without f ((in_members rest i).1 (small, met.1)) ∙ rw (met.0, members_out rest rest' i out) in
+          let f : ℕ → Bool = λ i. two_units (unit_at units i) (unit_at units j) a b in
+          let split : any_of f (members_of rest) ≡ (f i || any_of f (members_of rest'))
+          = any_without f ((in_members rest i).1 (taken.small, taken.first.found taken.small)) ∙ rw (members_out rest rest' i taken.out) in
           rw (more a b h)
-          (or_assoc (has_edge after a b) (two_units (unit_at units i) (unit_at units j) a b) (any_of f (members_of rest'))
+          (or_assoc (has_edge after a b) (f i) (any_of f (members_of rest'))
           ∙ ap (λ (t : Bool). has_edge after a b || t) (sym split)
           ∙ row.bits a b h);
-      within = λ k e. row.within k (both (member rest k) (not (eqb k i)) (sym (out k) ∙ e)).0;
+      within = λ k e. row.within k (both (member rest k) (not (eqb k i)) (sym (taken.out k) ∙ e)).0;
     }
 
 -- ---- all rows

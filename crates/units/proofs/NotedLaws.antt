@@ -2,15 +2,16 @@
 -- So a piece goes with what is noted exactly if it is not set or has the mask of its unit's lowest set piece: that one was met before, or is the piece itself.
 -- Assumes nothing.
 use mathlib.Core.Bool.{Bool, true, false, ◌&&◌, ◌||◌, and-false}
-use mathlib.Core.List.{List, [], ◌∷◌}
+use mathlib.Core.List.{List}
 use mathlib.Core.Logic.{⊎_elim}
 use mathlib.Core.Path.{◌≡◌, refl, sym, ap, ◌∙◌}
-use Prim.Native.Nat.{ℕ, zero, suc, ◌+◌, ◌≤◌, ◌<◌}
+use Prim.Native.Nat.{ℕ, ◌+◌, ◌≤◌, ◌<◌}
 use native.Mathlib.Omega.{arith}
 use lib.Dec.{eqb}
-use lib.ListN.{length, get_or, set, replicate, length-set, get_or-replicate, get_or-eq_default}
+use lib.ListN.{length, get_or-eq_default}
 use lib.Seq.{get_or-set_same, get_or-set_other}
 use borrow.Author.Tests.{eqb-true, eqb-false, eq-eqb, ne_eqb}
+use Rattle.std.proofs.lemmas.List.{get_or_default}
 use Rattle.rules.specs.Settings.{unset}
 use Rattle.rules.specs.Score.{mask_of, is_set}
 use Rattle.rules.specs.Units.{unit_fixed, fits_unit}
@@ -19,31 +20,9 @@ use Rattle.rules.proofs.Tests.{by_test, clash, lt_or_ge}
 use Rattle.adjacency.specs.UnitGraph.{fixed_at}
 use Rattle.units.specs.Noted.{fits_noted, noted_after}
 
--- ---- one mask, by what is noted of its unit
-
-module _ (noted : List ℕ) (unit mask : ℕ) where
-  pub fits_none : mask_of noted unit ≡ unset → fits_noted noted unit mask ≡ true
-  fits_none e = rw (eq-eqb (mask_of noted unit) unset e)
-
-  pub after_none : mask_of noted unit ≡ unset → noted_after noted unit mask ≡ set noted unit mask
-  after_none e = rw (eq-eqb (mask_of noted unit) unset e)
-
-  module _ (known : mask_of noted unit ≡ unset → ⊥) where
-    pub fits_unset : mask ≡ unset → fits_noted noted unit mask ≡ true
-    fits_unset e = rw (ne_eqb (mask_of noted unit) unset known, eq-eqb mask unset e)
-
-    pub fits_known : (mask ≡ unset → ⊥) → fits_noted noted unit mask ≡ eqb mask (mask_of noted unit)
-    fits_known h = rw (ne_eqb (mask_of noted unit) unset known, ne_eqb mask unset h)
-
-    pub after_known : noted_after noted unit mask ≡ noted
-    after_known = rw (ne_eqb (mask_of noted unit) unset known)
-
 -- a mask that does not fit is not noted
 pub after_misfit : (noted : List ℕ) (unit mask : ℕ) → fits_noted noted unit mask ≡ false → noted_after noted unit mask ≡ noted
 after_misfit noted unit mask e = by_test (eqb (mask_of noted unit) unset) (λ q. clash (rw q) e) (λ q. rw q)
-
-pub after_length : (noted : List ℕ) (unit mask : ℕ) → length (noted_after noted unit mask) ≡ length noted
-after_length noted unit mask = by_test (eqb (mask_of noted unit) unset) (λ e. rw e (length-set noted unit mask)) (λ e. rw e)
 
 -- ---- what is noted after the pieces before i
 
@@ -61,10 +40,6 @@ module _ (unit : ℕ → ℕ) (masks : List ℕ) where
   noted_other : {i u mask : ℕ} → in_unit u i ≡ false → Noted i u mask → Noted (i + 1) u mask
   noted_other {i} {u} out (none e before) = none e (λ j l. by_test (eqb j i) (λ q. ap (in_unit u) (eqb-true j i q) ∙ out) (λ q. before j (omega (arith, eqb-false j i q))))
   noted_other out (lowest j l before here e) = lowest j (omega arith) before here e
-
-  -- nothing is noted before the first piece
-  pub noted_start : (u : ℕ) → u < 512 → Noted 0 u (mask_of (replicate 512 unset) u)
-  noted_start u l = none (get_or-replicate 512 u unset 0 l) (λ j h. absurd (omega arith))
 
   -- a piece of another unit
   other_unit : {i u : ℕ} → (u ≡ unit i → ⊥) → in_unit u i ≡ false
@@ -129,18 +104,12 @@ module _ (unit : ℕ → ℕ) (masks : List ℕ) where
   noted_is {i} {u} (none e before) = e ∙ rw (find_none_up_to (in_unit u) i before)
   noted_is {i} {u} (lowest j l before here e) = e ∙ rw (find_up_to (in_unit u) i j l before here)
 
-  -- what stands inside a list does not depend on the default
-  default_same : (xs : List ℕ) (u d : ℕ) → u < length xs → get_or xs u d ≡ get_or xs u 0
-  default_same [] u d l = absurd (omega arith)
-  default_same (x ∷ xs) zero d l = refl
-  default_same (x ∷ xs) (suc u) d l = default_same xs u d (omega arith)
-
   -- the same of every number: no piece's unit is past the array
   pub noted_all : (noted : List ℕ) (i : ℕ) → length noted ≡ 512 → ((u : ℕ) → u < 512 → Noted i u (mask_of noted u)) → ((j : ℕ) → j < i → unit j < 512)
       → (u : ℕ) → fixed_at noted u ≡ unit_fixed unit i masks u
   noted_all noted i size all small u =
       ⊎_elim
-      (λ (l : u < 512). default_same noted u unset (omega arith) ∙ noted_is (all u l))
+      (λ (l : u < 512). get_or_default noted u unset 0 (omega arith) ∙ noted_is (all u l))
       (λ (l : 512 ≤ u).
       get_or-eq_default noted unset (omega arith)
       ∙ noted_is {i = i} {u = u} {mask = unset} (none refl (λ j h. other_unit (λ e. omega (arith, small j h)))))

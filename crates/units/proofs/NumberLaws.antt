@@ -1,14 +1,13 @@
--- Numbering one unit after the other. A unit's members are given its number one by one (`Giving`). The unit of the lowest piece that is left has that piece's
--- number; it is taken out, and the units of what is left are those that follow (`Numbering`). Assumes nothing.
+-- Numbering one unit after the other. The unit of the lowest piece that is left has that piece's number; it is taken out, and the units of what is left are those
+-- that follow. Assumes nothing.
 use mathlib.Core.Bool.{true, false, not, ◌&&◌, ◌||◌, cond, and-true, and-false, or-false}
 use mathlib.Core.List.{List}
 use mathlib.Core.Path.{◌≡◌, refl, sym, ap, ◌∙◌}
 use Prim.Native.Nat.{ℕ, ◌≤◌, ◌<◌}
 use native.Mathlib.Omega.{arith}
 use lib.Dec.{eqb, ltb}
-use lib.ListN.{length, set, length-set}
-use lib.Seq.{get_or-set_same, get_or-set_other}
-use borrow.Author.Tests.{ne_eqb, eqb-true, eqb-false, lt-ltb, le-ltb}
+use lib.ListN.{length}
+use borrow.Author.Tests.{ne_eqb, lt-ltb, le-ltb}
 use Rattle.bitset.specs.Bits.{member, First, Empty}
 use Rattle.rules.specs.Basics.{up_to, keep}
 use Rattle.rules.specs.Edges.{Graph}
@@ -24,38 +23,6 @@ use Rattle.components.specs.Component.{IsComponent}
 use Rattle.components.proofs.Taking.{components_left}
 use Rattle.units.specs.Numbered.{Numbered}
 use Rattle.units.specs.Steps.{GivenNumber}
-
--- ---- the members of one unit
-
--- those of `rest` have yet to be given the number
-pub record Giving (members : List ℕ) (number : ℕ) (before after rest : List ℕ) : Type 0 where
-  pub whole : length after ≡ 512
-  pub within : (k : ℕ) → member rest k ≡ true → member members k ≡ true
-  pub given : (k : ℕ) → k < 512 → member members k ≡ true → member rest k ≡ false → unit_at after k ≡ number
-  pub others : (k : ℕ) → (k < 512 → member members k ≡ false) → unit_at after k ≡ unit_at before k
-
-pub giving_none : (members : List ℕ) (number : ℕ) (before : List ℕ) → length before ≡ 512 → Giving members number before before members
-giving_none members number before e = record { whole = e; within = λ k m. m; given = λ k h m n. clash m n; others = λ k h. refl }
-
-module _ {members : List ℕ} {number : ℕ} {before after rest : List ℕ} (giving : Giving members number before after rest) where
-  pub giving_all : First (member rest) 512 → GivenNumber members number before after
-  giving_all first = record { whole = giving.whole; inside = λ k h m. giving.given k h m (first.before k h); others = giving.others }
-
-  module _ (i : ℕ) (rest' : List ℕ) (small : i < 512) (first : First (member rest) i) (out : (k : ℕ) → member rest' k ≡ (member rest k && not (eqb k i))) where
-    pub giving_next : Giving members number before (set after i number) rest'
-    giving_next = record {
-      whole = simp length-set giving.whole;
-      within = λ k e. giving.within k (both (member rest k) (not (eqb k i)) (sym (out k) ∙ e)).0;
-      given = λ k h m n. by_test (eqb k i)
-          (λ e. rw (eqb-true k i e) (get_or-set_same after i number 0 (omega (arith, giving.whole))))
-          (λ e. get_or-set_other after i k number 0 (eqb-false k i e)
-          ∙ giving.given k h m (sym (and-true (member rest k)) ∙ rw e at (sym (out k) ∙ n)));
-      others = λ k h.
-          get_or-set_other after i k number 0 (λ q. clash (giving.within i (first.found small)) (rw q at (h (omega arith))))
-          ∙ giving.others k h;
-    }
-
--- ---- one unit after the other
 
 -- Of the pieces in `all` those in `rest` have yet to be numbered. The others have their numbers, and `numbers` has those that are units' numbers.
 pub record Numbering (tieWords all before units numbers rest : List ℕ) : Type 0 where
@@ -82,22 +49,22 @@ module _ {tieWords all before units numbers rest : List ℕ} (numbering : Number
   g = word_graph tieWords tieWords
 
   -- all are numbered
-  pub numbering_all : {n : ℕ} → n ≤ 512 → ((k : ℕ) → member all k ≡ ltb k n) → First (member rest) 512 → Numbered tieWords n before units numbers
+  pub numbering_all : {n : ℕ} → n ≤ 512 → ((k : ℕ) → member all k ≡ ltb k n) → ((k : ℕ) → k < 512 → member rest k ≡ false) → Numbered tieWords n before units numbers
   unfolding members_of
-  numbering_all {n} few below first =
+  numbering_all {n} few below none =
       let pieces : members_of all ≡ up_to n = members_below all n few below in
       record {
         whole = numbering.whole;
         unit = λ i h.
             let done : unit_at units i ≡ part_of (components g (members_of all)) i
-            = rw (first.before i (omega arith)) at (numbering.unit i (omega arith) (below i ∙ lt-ltb i n h)) in
+            = rw (none i (omega arith)) at (numbering.unit i (omega arith) (below i ∙ lt-ltb i n h)) in
             done ∙ ap (λ (xs : List ℕ). part_of (components g xs) i) pieces;
         past = λ i h. numbering.past i (λ _. below i ∙ le-ltb i n h);
         numbers =
             keep_same (member numbers) (λ k. member all k && eqb (unit_at units k) k) (up_to 512)
             (λ k m.
             let small = (in_up_to 512 k).0 m in
-            numbering.numbers_so_far k small ∙ rw (first.before k small, and-true (member all k)))
+            numbering.numbers_so_far k small ∙ rw (none k small, and-true (member all k)))
             ∙ sym (keep_keep (λ k. eqb (unit_at units k) k) (member all) (up_to 512))
             ∙ ap (keep (λ k. eqb (unit_at units k) k)) pieces;
       }

@@ -3,10 +3,11 @@
 use mathlib.Core.Bool.{Bool, ◌&&◌}
 use mathlib.Core.List.{List}
 use mathlib.Core.Path.{◌≡◌, ap}
-use Prim.Native.Nat.{ℕ, ◌≤◌, ◌<◌}
+use Prim.Native.Nat.{ℕ, ◌<◌}
 use native.Mathlib.Omega.{arith}
 use lib.Dec.{eqb}
 use lib.ListN.{length}
+use Rattle.std.specs.Prelude.{None, Some}
 use Rattle.rules.specs.declared.layer.Settings.{Settings}
 use Rattle.rules.specs.declared.layer.Piece.{Piece}
 use Rattle.rules.specs.declared.refusal.Place.{Place}
@@ -26,27 +27,27 @@ use Rattle.units.specs.Numbered.{UnitsOf}
 abbrev pub split_question : ℕ → (ℕ → ℕ) → ℕ → List ℕ → ℕ → Outcome (Unit {0})
 split_question number unit n masks i = ask (fits_unit unit n masks i) number (Place.Piece i)
 
-module _ {unit : ℕ → ℕ} {masks noted : List ℕ} {r : ℕ} (first : NotedMasks unit masks noted r) (number : ℕ) where
-  pub all_fit : length masks ≤ r → ask_each (split_question number unit (length masks) masks) (length masks) ≡ done tt
-  all_fit l = each_passes _ (length masks) (λ i h. rw (first.before i (omega arith)))
+module _ {unit : ℕ → ℕ} {masks noted : List ℕ} (number : ℕ) where
+  pub all_fit : NotedMasks unit masks noted None → ask_each (split_question number unit (length masks) masks) (length masks) ≡ done tt
+  all_fit first = each_passes _ (length masks) (λ i h. rw (first.misfit i h))
 
-  pub one_splits : r < length masks → ask_each (split_question number unit (length masks) masks) (length masks) ≡ refused number (Place.Piece r)
-  one_splits l = each_refused _ (length masks) {i = r} l (each_passes _ r (λ i h. rw (first.before i (omega arith)))) (rw (first.stops l))
+  pub one_splits : {r : ℕ} → NotedMasks unit masks noted (Some r) → ask_each (split_question number unit (length masks) masks) (length masks) ≡ refused number (Place.Piece r)
+  one_splits {r} first =
+      let (l, stops, before) = first.misfit in
+      each_refused _ (length masks) {i = r} l (each_passes _ r (λ i h. rw (before i h))) (rw stops)
 
-module _ (s : Settings) (ps : List Piece) (n : ℕ) (size : length ps ≡ n) {before units numbers : List ℕ} (numbered : UnitsOf s ps before units numbers) where
-  unit_is : (i : ℕ) → i < n → unit_at units i ≡ unit_of s ps i
-  unit_is i l = numbered.unit i (omega arith)
-
+module _ (s : Settings) (ps : List Piece) {before units numbers : List ℕ} (numbered : UnitsOf s ps before units numbers) where
   -- each piece's unit is one of the pieces
-  pub unit_inside : (i : ℕ) → i < n → unit_at units i < n
-  unit_inside i l = omega (arith, unit_is i l, (grouping s ps).lower i (omega arith))
+  pub unit_inside : (i : ℕ) → i < length ps → unit_at units i < length ps
+  unit_inside i l = omega (arith, numbered.unit i l, (grouping s ps).lower i l)
 
-  fits_is : (masks : List ℕ) (i : ℕ) → i < n → fits_unit (unit_at units) n masks i ≡ fits_unit (unit_of s ps) n masks i
+  fits_is : (masks : List ℕ) (i : ℕ) → i < length ps → fits_unit (unit_at units) (length ps) masks i ≡ fits_unit (unit_of s ps) (length ps) masks i
   fits_is masks i l =
       let test : ℕ → ℕ → Bool = λ u j. is_set masks j && eqb (unit_of s ps j) u in
-      let same : (u : ℕ) → find (λ j. is_set masks j && eqb (unit_at units j) u) (up_to n) ≡ find (test u) (up_to n)
-      = λ u. find_same _ (test u) (up_to n) (λ j m. rw (unit_is j ((in_up_to n j).0 m))) in
-      rw (unit_is i l, same (unit_of s ps i))
+      let same : (u : ℕ) → find (λ j. is_set masks j && eqb (unit_at units j) u) (up_to (length ps)) ≡ find (test u) (up_to (length ps))
+      = λ u. find_same _ (test u) (up_to (length ps)) (λ j m. rw (numbered.unit j ((in_up_to (length ps) j).0 m))) in
+      rw (numbered.unit i l, same (unit_of s ps i))
 
-  pub splits_same : (masks : List ℕ) (number : ℕ) → ask_each (split_question number (unit_at units) n masks) n ≡ ask_each (split_question number (unit_of s ps) n masks) n
-  splits_same masks number = each_ext n (λ i l. ap (λ (b : Bool). ask b number (Place.Piece i)) (fits_is masks i l))
+  pub splits_same : (masks : List ℕ) (number : ℕ)
+      → ask_each (split_question number (unit_at units) (length ps) masks) (length ps) ≡ ask_each (split_question number (unit_of s ps) (length ps) masks) (length ps)
+  splits_same masks number = each_ext (length ps) (λ i l. ap (λ (b : Bool). ask b number (Place.Piece i)) (fits_is masks i l))

@@ -1,5 +1,5 @@
 -- The mask that is noted of each unit while its pieces are gone through: that of its lowest set piece. Assumes nothing: these are definitions.
-use Rattle.std.specs.Prelude.{Bool, true, false, cond, ◌||◌, List, ◌≡◌, ℕ, ◌≤◌, ◌<◌, eqb, length, set}
+use Rattle.std.specs.Prelude.{Bool, true, false, cond, ◌||◌, List, ◌≡◌, ℕ, ◌<◌, eqb, length, set, Option, Some, None}
 use Rattle.rules.specs.Settings.{unset}
 use Rattle.rules.specs.Score.{mask_of}
 use Rattle.rules.specs.Units.{unit_fixed, fits_unit}
@@ -13,11 +13,18 @@ fits_noted noted unit mask = eqb (mask_of noted unit) unset || (eqb mask unset |
 abbrev pub noted_after : List ℕ → ℕ → ℕ → List ℕ
 noted_after noted unit mask = cond (eqb (mask_of noted unit) unset) (set noted unit mask) noted
 
--- r is the first piece that does not fit its unit, or the number of masks where all fit. Noted of each unit is the mask of its lowest set piece before r, or that
--- there is none.
-pub record NotedMasks (unit : ℕ → ℕ) (masks noted : List ℕ) (r : ℕ) : Type 0 where
-  pub within : r ≤ length masks
-  pub before : (i : ℕ) → i < r → fits_unit unit (length masks) masks i ≡ true
-  pub stops : r < length masks → fits_unit unit (length masks) masks r ≡ false
-  pub masks_noted : (u : ℕ) → fixed_at noted u ≡ unit_fixed unit r masks u
+-- r is the first piece that does not fit its unit, or all fit
+abbrev pub FirstMisfit : (ℕ → ℕ) → List ℕ → Option ℕ → Type 0
+FirstMisfit unit masks None = (i : ℕ) → i < length masks → fits_unit unit (length masks) masks i ≡ true
+FirstMisfit unit masks (Some r) = (r < length masks) × (fits_unit unit (length masks) masks r ≡ false) × ((i : ℕ) → i < r → fits_unit unit (length masks) masks i ≡ true)
+
+-- how many pieces come before it
+abbrev pub fitting : List ℕ → Option ℕ → ℕ
+fitting masks None = length masks
+fitting masks (Some r) = r
+
+-- The first misfit was found. Noted of each unit is the mask of its lowest set piece before that one, or that there is none.
+pub record NotedMasks (unit : ℕ → ℕ) (masks noted : List ℕ) (r : Option ℕ) : Type 0 where
+  pub misfit : FirstMisfit unit masks r
+  pub masks_noted : (u : ℕ) → fixed_at noted u ≡ unit_fixed unit (fitting masks r) masks u
   pub whole : length noted ≡ 512

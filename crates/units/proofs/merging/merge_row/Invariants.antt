@@ -1,11 +1,6 @@
--- `merge_row`. The invariant: the edges to the pieces that were taken out are merged. Assumes nothing.
-use lib.ListN.{length}
-use Rattle.adjacency.specs.Members.{members_of}
+-- `merge_row`. The invariant: the edges to the neighbours that were met are merged. Assumes nothing.
 use Rattle.units.proofs.MergeLaws.{MergingRow}
 use Rattle.units.proofs.merging.merge_row.Given as goal
 
-abbrev pub invariant-loop-rest : goal.invariant-loop-rest
-invariant-loop-rest l = MergingRow l.words l.units l.j l.initial.merged l.merged l.rest
-
-abbrev pub decreases-loop-rest : goal.decreases-loop-rest
-decreases-loop-rest l = length (members_of l.rest)
+abbrev pub invariant-loop-i : goal.invariant-loop-i
+invariant-loop-i l = MergingRow l.words l.units l.j l.initial.merged l.merged l.i-iterator

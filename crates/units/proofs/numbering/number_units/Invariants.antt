@@ -4,8 +4,8 @@ use Rattle.adjacency.specs.Members.{members_of}
 use Rattle.units.proofs.NumberLaws.{Numbering}
 use Rattle.units.proofs.numbering.number_units.Given as goal
 
-abbrev pub invariant-loop-rest : goal.invariant-loop-rest
-invariant-loop-rest l = Numbering l.ties l.initial.rest l.initial.units l.units l.numbers l.rest
+abbrev pub invariant-loop-v : goal.invariant-loop-v
+invariant-loop-v l = Numbering l.ties l.initial.rest l.initial.units l.units l.numbers l.rest
 
-abbrev pub decreases-loop-rest : goal.decreases-loop-rest
-decreases-loop-rest l = length (members_of l.rest)
+abbrev pub decreases-loop-v : goal.decreases-loop-v
+decreases-loop-v l = length (members_of l.rest)
