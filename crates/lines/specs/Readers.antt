@@ -6,10 +6,10 @@ use Rattle.rules.specs.Lines.{NumbersRead}
 use Rattle.rules.specs.Questions.{Outcome, done, and_then}
 use Rattle.lines.specs.ReadLines.{capped}
 
--- the numbers of a line and the text after it, or a refusal
-abbrev pub line_answer : Result (List ℕ) Refused → List ℕ → Outcome NumbersRead
-line_answer (Ok numbers) rest = done (record { numbers = numbers; rest = rest })
-line_answer (Err r) rest = refusal_of r
+-- what a call came to that answers a value, by what the value says of the text
+abbrev pub answer_as : {A B : Type 0} → (A → B) → Result A Refused → Outcome B
+answer_as f (Ok a) = done (f a)
+answer_as f (Err r) = refusal_of r
 
 -- the line's numbers, up to the cap
 abbrev pub capped_line : Outcome NumbersRead → Outcome NumbersRead

@@ -1,8 +1,9 @@
 // A text from one of its lines on, read line by line.
 ghost use Rattle.std.specs.Prelude.{◌≡◌, ◌+◌, ◌<◌, ◌≤◌, OnErr, OnOk};
 ghost use Rattle.rules.specs.declared.refusal.Place.{Place};
+ghost use Rattle.rules.specs.Lines.{NumbersRead};
 ghost use Rattle.rules.specs.Questions.{read_line};
-ghost use Rattle.lines.specs.Readers.{line_answer, capped_line};
+ghost use Rattle.lines.specs.Readers.{answer_as, capped_line};
 
 use crate::read::read_line;
 use rules::{Place, Refusal, Refused};
@@ -37,7 +38,7 @@ impl<'a> Reader<'a> {
     pub fn next_line<const N: usize>(&mut self, key: &[u8]) -> Result<[u32; N], Refused>
         requires count { (1 ≤ N) × (N ≤ 5) }
         requires room { self.old.line < 4_294_967_295 }
-        ensures read { line_answer result self.new.rest.now ≡ capped_line (read_line key.now N self.old.line self.old.rest.now) }
+        ensures read { answer_as {B = NumbersRead} (λ ns. record { numbers = ns; rest = self.new.rest.now }) result ≡ capped_line (read_line key.now N self.old.line self.old.rest.now) }
         ensures line { OnOk result (self.new.line ≡ self.old.line + 1) }
         ensures refused { OnErr result (self.new ≡ self.old) }
     {

@@ -1,3 +1,4 @@
--- Laws of reading piece lines and lines that fix masks, each stated once.
+-- Laws of reading lines of pieces, each stated once.
+pub mod StoredPieces
 pub mod PieceLines
 pub mod FixedReading

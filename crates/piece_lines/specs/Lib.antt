@@ -1,2 +1,0 @@
-pub mod Fixed
-pub mod Pieces

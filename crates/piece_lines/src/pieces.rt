@@ -1,100 +1,51 @@
-// The piece lines. A line's form is judged whole before any range, and its ranges before its area.
-ghost use Rattle.std.specs.Prelude.{◌≡◌, ◌≤◌, replicate};
-ghost use Rattle.rules.specs.Questions.{piece_from};
-ghost use Rattle.rules.specs.Settings.{no_piece};
-ghost use Rattle.piece_lines.specs.Pieces.{PieceFound, PiecesFound};
+// The piece lines. A line's form is judged whole before any range, and its ranges before its area. After a refusal it is not said how far
+// the reader has come.
+ghost use Rattle.std.specs.Prelude.{◌≡◌, ◌+◌, ◌<◌, ◌≤◌, OnOk};
+ghost use Rattle.lines.specs.Readers.{answer_as};
+ghost use Rattle.rules.specs.Questions.{PieceRead, PiecesRead, piece_from, read_piece, read_pieces};
 
-use layout::{Judgement, judge_piece};
-use lines::read_line;
-use rules::{Piece, Place, ReadAnswer, Refusal};
-
-// The piece of a line and how many bytes the line has, or a refusal.
-#[derive(Clone, Copy)]
-pub enum PieceAnswer {
-    Read(Piece, usize),
-    Refused(Refusal, Place),
-}
+use crate::records::Pieces;
+use layout::judge_piece;
+use lines::Reader;
+use rules::{Piece, Refused};
 
 // The piece that five numbers state.
 fn piece_from(values: [u32; 5]) -> Piece
     ensures { result ≡ piece_from values }
 {
+    let [shape, x1, y1, x2, y2] = values;
     Piece {
-        shape: values[0],
-        x1: values[1],
-        y1: values[2],
-        x2: values[3],
-        y2: values[4],
+        shape,
+        x1,
+        y1,
+        x2,
+        y2,
         fixed: Piece::UNSET,
     }
 }
 
-// The text's first line, which is to state a piece.
-fn read_piece(text: &[u8], line: u32) -> PieceAnswer
-    ensures { PieceFound line text.now result }
+// The next line, which is to state a piece.
+fn read_piece(reader: &mut Reader) -> Result<Piece, Refused>
+    requires { reader.old.line < 4_294_967_295 }
+    ensures piece { answer_as {B = PieceRead} (λ p. record { piece = p; rest = reader.new.rest.now }) result ≡ read_piece reader.old.line reader.old.rest.now }
+    ensures line { OnOk result (reader.new.line ≡ reader.old.line + 1) }
 {
-    let read = read_line(text, b"piece=", 5);
-    if !read.good {
-        return PieceAnswer::Refused(Refusal::Form, Place::Line(line));
-    }
-    let values = read.values;
-    let piece = piece_from(values);
-    match judge_piece(Place::Line(line), piece) {
-        Judgement::Refused(refusal, place) => PieceAnswer::Refused(refusal, place),
-        Judgement::Passed => PieceAnswer::Read(piece, read.bytes),
-    }
+    let place = reader.place();
+    let piece = piece_from(reader.next_line(b"piece=")?);
+    judge_piece(place, piece)?;
+    Ok(piece)
 }
 
-// Pieces in records that are zero after them, and how many bytes their lines have. After a refusal all is zero.
-#[derive(Clone, Copy)]
-pub struct Pieces {
-    pub answer: ReadAnswer,
-    pub bytes: usize,
-    pub records: [Piece; 512],
-}
-
-pub fn no_pieces() -> [Piece; 512]
-    ensures { result ≡ replicate 512 no_piece }
+// As many piece lines as stated.
+pub fn read_pieces(reader: &mut Reader, count: usize) -> Result<Pieces, Refused>
+    requires few { count ≤ 512 }
+    requires room { reader.old.line + count ≤ 4_294_967_295 }
+    ensures pieces { answer_as {B = PiecesRead} (λ ps. record { pieces = ps; rest = reader.new.rest.now }) result ≡ read_pieces count reader.old.line reader.old.rest.now }
+    ensures line { OnOk result (reader.new.line ≡ reader.old.line + count) }
 {
-    let none = Piece {
-        shape: 0,
-        x1: 0,
-        y1: 0,
-        x2: 0,
-        y2: 0,
-        fixed: 0,
-    };
-    [none; 512]
-}
-
-// As many piece lines as stated, of which the first is line 7.
-pub fn read_pieces(text: &[u8], count: usize) -> Pieces
-    requires { count ≤ 512 }
-    ensures { PiecesFound text.now count result }
-{
-    let mut records = no_pieces();
-    let mut at = 0;
-    let mut k = 0;
-    while k < count {
-        match read_piece(&text[at..], (k as u32) + 7) {
-            PieceAnswer::Read(piece, bytes) => {
-                records[k] = piece;
-                at += bytes;
-                k += 1;
-            }
-            PieceAnswer::Refused(refusal, place) => {
-                let zeros = no_pieces();
-                return Pieces {
-                    answer: ReadAnswer::Refused(refusal, place),
-                    bytes: 0,
-                    records: zeros,
-                };
-            }
-        }
+    let mut pieces = Pieces::none();
+    for _ in 0..count {
+        pieces.push(read_piece(reader)?);
     }
-    Pieces {
-        answer: ReadAnswer::Read,
-        bytes: at,
-        records: records,
-    }
+    Ok(pieces)
 }

@@ -1,88 +1,57 @@
-use native.Mathlib.Omega.{arith}
-use mathlib.Core.List.{List}
-use mathlib.Core.Path.{ap, subst}
-use Prim.Native.Nat.{ℕ, ◌+◌, ◌-◌, ◌≤◌}
-use lib.ListN.{length, take, drop, length-drop}
-use Rattle.lines.proofs.NumberParts.{part_from}
+use Rattle.std.proofs.Common.{◌≡◌, ◌<◌, refl, ap, ◌∙◌, length, length-set, arith}
+use Rattle.std.proofs.lemmas.Result.{err_from_is_err_and}
 use Rattle.text_theory.proofs.FixedLines.{OneFixed}
-use Rattle.piece_lines.specs.declared.fixed.FixedAnswer.{FixedAnswer}
-use Rattle.piece_lines.specs.Fixed.{fixed_bytes, FixedFound}
 use Rattle.piece_lines.proofs.FixedReading.{fixed_facts, passed_none, passed_one, passed_stop, passed_all}
 use Rattle.piece_lines.proofs.fixed.read_all_fixed.Goals as goal
-use Rattle.piece_lines.proofs.fixed.read_all_fixed.Goals.{In-Read}
+use Rattle.piece_lines.proofs.fixed.read_all_fixed.Goals.{In_ok-fixed, After-fix}
 
--- ---- What was read
--- from the place that was reached
-found : (K count least lineNo at : ℕ) (text : List ℕ) (r : FixedAnswer) → FixedFound K count least lineNo (take (length text - at) (drop at text)) r → FixedFound K count least lineNo (drop at text) r
-found K count least lineNo at text r f = subst (λ (s : List ℕ). FixedFound K count least lineNo s r) (part_from text at) f
+-- the line that was read, of as many pieces as there are
+facts : (c : In_ok-fixed)
+    → let loop = c.loop-reader in
+    OneFixed c.args.masks (length loop.pieces) loop.least loop.reader.rest.now (record { piece = c.in_ok-fixed.fixed.piece; mask = c.in_ok-fixed.fixed.mask; rest = c.read_fixed.new.reader.rest.now })
+facts c = fixed_facts _ _ _ _ _ _ (rw c.len.ensures at c.in_ok-fixed.ensures.fixed)
 
--- of a line that was read
-facts : (c : In-Read)
-    → let loop = c.loop-at in
-    let args = c.args in
-    OneFixed args.masks args.count loop.least (drop loop.at args.text.now) (record { piece = c.in-Read.piece; mask = c.in-Read.mask; rest = drop c.in-Read.bytes (drop loop.at args.text.now) })
-facts c = fixed_facts _ _ _ _ _ c.read_fixed.result (found _ _ _ _ c.loop-at.at c.args.text.now _ c.read_fixed.ensures) _ _ _ c.in-Read.is
+pub loop-reader-init : goal.loop-reader-init
+loop-reader-init c = record { many = refl; low = omega arith; line = omega arith; passed = passed_none _ _ _ _ }
 
--- which is inside the text
-inside : (c : In-Read)
-    → let loop = c.loop-at in
-    let args = c.args in
-    loop.at + c.in-Read.bytes ≤ length args.text.now
-inside c =
-    let loop = c.loop-at in
-    let args = c.args in
-    omega (
-      arith,
-      loop.invariant.0,
-      (found _ _ _ _ c.loop-at.at c.args.text.now _ c.read_fixed.ensures).inside,
-      ap fixed_bytes c.in-Read.is,
-      length-drop loop.at args.text.now,
-    )
+pub read_fixed-requires-clause-room : goal.read_fixed-requires-clause-room
+read_fixed-requires-clause-room c = omega (arith, c.loop-reader.invariant.many, c.loop-reader.invariant.low, c.loop-reader.invariant.line, c.requires.room)
 
-pub loop-at-init : goal.loop-at-init
-loop-at-init c = (omega arith, omega arith, omega arith, passed_none c.args.count c.requires.count_bound.0 c.args.pieces c.requires.pieces_value _ _)
+pub returns-in_err-fixed : goal.returns-in_err-fixed
+returns-in_err-fixed c =
+    let p = err_from_is_err_and c.from_residual.result c.from_residual.ensures.1 in
+    let some : 0 < length c.loop-reader.reader.rest.now = grind arith in
+    let one = rw c.len.ensures at c.in_err-fixed.ensures.fixed in
+    rw (p.1, p.2) (passed_stop _ _ _ _ _ _ _ _ c.loop-reader.invariant.passed _ _ some one)
 
-pub offset_bounds-records-piece : goal.offset_bounds-records-piece
-offset_bounds-records-piece c = omega (arith, (facts (goal.at.offset_bounds-records-piece c).In-Read).piece, c.requires.count_bound)
-
-pub bounds-records-piece : goal.bounds-records-piece
-bounds-records-piece c = omega (arith, (facts (goal.at.bounds-records-piece c).In-Read).piece, c.requires.count_bound)
-
-pub offset_bounds-records-piece-in-Read : goal.offset_bounds-records-piece-in-Read
-offset_bounds-records-piece-in-Read c = omega (arith, (facts (goal.at.offset_bounds-records-piece-in-Read c).In-Read).piece, c.requires.count_bound)
-
-pub bounds-records-piece-in-Read : goal.bounds-records-piece-in-Read
-bounds-records-piece-in-Read c = omega (arith, (facts (goal.at.bounds-records-piece-in-Read c).In-Read).piece, c.requires.count_bound)
-
-pub overflow_add-at : goal.overflow_add-at
-overflow_add-at c = omega (arith, inside (goal.at.overflow_add-at c).In-Read)
+pub fix-requires : goal.fix-requires
+fix-requires c = (facts (goal.at.fix-requires c).In_ok-fixed).piece
 
 pub overflow_add-least : goal.overflow_add-least
-overflow_add-least c = omega (arith, (facts (goal.at.overflow_add-least c).In-Read).piece, c.requires.count_bound)
+overflow_add-least c = omega (arith, (facts (goal.at.overflow_add-least c).In_ok-fixed).piece, c.loop-reader.invariant.many, c.requires.few)
 
-pub overflow_add-line-in-Read : goal.overflow_add-line-in-Read
-overflow_add-line-in-Read c = omega (arith, c.loop-at.invariant.1, c.loop-at.invariant.2, c.requires.count_bound)
+-- as many pieces after the mask was fixed
+same_many : (c : After-fix) → length c.fix.new.self ≡ length c.loop-reader.pieces
+same_many c = ap length c.fix.ensures ∙ length-set c.loop-reader.pieces c.in_ok-fixed.fixed.piece _
 
-pub loop-at-smaller : goal.loop-at-smaller
-loop-at-smaller c = let f = facts (goal.at.loop-at-smaller c).In-Read in omega (arith, f.piece, f.risen)
+pub loop-reader-smaller : goal.loop-reader-smaller
+loop-reader-smaller c =
+    let f = facts (goal.at.loop-reader-smaller c).In_ok-fixed in
+    omega (arith, f.piece, f.risen, same_many (goal.at.loop-reader-smaller c).After-fix)
 
-pub loop-at-preserved : goal.loop-at-preserved
-loop-at-preserved c =
-    let loop = c.loop-at in
-    let f = facts (goal.at.loop-at-preserved c).In-Read in
-    let next = passed_one _ _ _ c.requires.count_bound.0 _ loop.records loop.at loop.least loop.line loop.invariant.3 c.read_fixed.result (found _ _ _ _ c.loop-at.at c.args.text.now _ c.read_fixed.ensures) _ _ _ c.in-Read.is f.piece c.with_fixed.ensures in (
-      inside (goal.at.loop-at-preserved c).In-Read,
-      omega (arith, f.piece),
-      omega (arith, loop.invariant.2, f.risen),
-      next,
-    )
-
-pub returns-in-Refused : goal.returns-in-Refused
-returns-in-Refused c =
-    let loop = c.loop-at in
-    passed_stop _ _ _ c.requires.count_bound.0 _ loop.records loop.at loop.least loop.line loop.invariant.3 c.read_fixed.result (found _ _ _ _ c.loop-at.at c.args.text.now _ c.read_fixed.ensures) _ _ c.in-Refused.is c.loop-at-test.true c.no_pieces-zeros.result c.no_pieces-zeros.ensures
+pub loop-reader-preserved : goal.loop-reader-preserved
+loop-reader-preserved c =
+    let f = facts (goal.at.loop-reader-preserved c).In_ok-fixed in
+    let many = same_many (goal.at.loop-reader-preserved c).After-fix in
+    let one = rw c.len.ensures at c.in_ok-fixed.ensures.fixed in
+    record {
+      many = many ∙ c.loop-reader.invariant.many;
+      low = omega (arith, f.piece, many);
+      line = omega (arith, c.in_ok-fixed.ensures.line, c.loop-reader.invariant.line, f.risen);
+      passed = rw (c.fix.ensures, c.in_ok-fixed.ensures.line) (passed_one _ _ _ _ _ _ _ _ c.loop-reader.invariant.passed _ one);
+    }
 
 pub returns : goal.returns
 returns c =
-    let loop = c.loop-at in
-    passed_all _ _ _ c.requires.count_bound.0 _ loop.records loop.at loop.least loop.line loop.invariant.3 c.loop-at-test.false
+    let none : length c.loop-reader.reader.rest.now ≡ 0 = grind arith in
+    passed_all _ _ _ _ _ _ _ _ c.loop-reader.invariant.passed none

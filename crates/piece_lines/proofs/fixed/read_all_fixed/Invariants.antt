@@ -1,11 +1,16 @@
--- `read_all_fixed`: what the lines passed have fixed and the lines from here on are all lines, and the records after the pieces stay zero. Assumes nothing.
-use Prim.Native.Nat.{◌+◌, ◌-◌, ◌≤◌}
-use lib.ListN.{length, take}
+-- `read_all_fixed`: what the lines passed have fixed and the lines from here on are all lines. Assumes nothing.
+use Rattle.std.proofs.Common.{◌≡◌, ◌+◌, ◌-◌, ◌≤◌, length}
 use Rattle.piece_lines.proofs.FixedReading.{Passed}
 use Rattle.piece_lines.proofs.fixed.read_all_fixed.Given as goal
 
-abbrev pub invariant-loop-at : goal.invariant-loop-at
-invariant-loop-at l = (l.at ≤ length l.text) × (l.least ≤ l.count) × (l.line ≤ 7 + l.count + l.least) × Passed l.text l.masks l.count (take l.count l.initial.records) l.records l.at l.least l.line
+abbrev pub invariant-loop-reader : goal.invariant-loop-reader
+invariant-loop-reader l =
+    record {
+      many : length l.pieces ≡ length l.initial.pieces;
+      low : l.least ≤ length l.pieces;
+      line : l.reader.line ≤ l.initial.reader.line + l.least;
+      passed : Passed l.masks l.initial.reader.line l.initial.pieces l.initial.reader.rest.now l.least l.reader.line l.pieces l.reader.rest.now;
+    }
 
-abbrev pub decreases-loop-at : goal.decreases-loop-at
-decreases-loop-at l = l.count - l.least
+abbrev pub decreases-loop-reader : goal.decreases-loop-reader
+decreases-loop-reader l = length l.pieces - l.least

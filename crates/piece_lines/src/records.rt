@@ -1,0 +1,77 @@
+// Pieces in 512 records, which are zero after them. Contracts see the list of the pieces.
+ghost use Rattle.std.specs.Prelude.{◌≡◌, ◌++◌, ◌-◌, ◌<◌, ◌≤◌, List, [], ◌∷◌, drop, length, replicate, take};
+ghost use Rattle.rules.specs.declared.layer.Piece.{Piece};
+ghost use Rattle.rules.specs.Answers.{in_records};
+ghost use Rattle.rules.specs.Questions.{fix_at};
+ghost use Rattle.rules.specs.Settings.{no_piece};
+
+use rules::Piece;
+use std::marker::Model;
+
+#[derive(Drop)]
+pub struct Pieces {
+    records: [Piece; 512],
+    count: usize,
+}
+
+impl Model for Pieces {
+    ghost Value = { List Piece };
+
+    ghost view = { λ p. take p.count p.records };
+
+    ghost invariant = { λ p. (p.count ≤ 512) × (length p.records ≡ 512) × (drop p.count p.records ≡ replicate (512 - p.count) no_piece) };
+}
+
+impl Pieces {
+    pub fn none() -> Pieces
+        ensures { result ≡ [] }
+    {
+        let zero = Piece {
+            shape: 0,
+            x1: 0,
+            y1: 0,
+            x2: 0,
+            y2: 0,
+            fixed: 0,
+        };
+        Pieces {
+            records: [zero; 512],
+            count: 0,
+        }
+    }
+
+    pub fn as_slice(&self) -> &[Piece]
+        ensures { result.now ≡ self.now }
+    {
+        &self.records[..self.count]
+    }
+
+    pub fn push(&mut self, piece: Piece)
+        requires { length self.old < 512 }
+        ensures { self.new ≡ self.old ++ piece ∷ [] }
+    {
+        self.records[self.count] = piece;
+        self.count += 1;
+    }
+
+    // Fixes the mask of piece i.
+    pub fn fix(&mut self, i: usize, mask: u8)
+        requires { i < length self.old }
+        ensures { self.new ≡ fix_at i mask self.old }
+    {
+        prove!(i < self.count);
+        self.records[i].fixed = mask;
+    }
+
+    pub fn len(&self) -> usize
+        ensures { result ≡ length self.now }
+    {
+        self.count
+    }
+
+    pub fn into_records(self) -> [Piece; 512]
+        ensures { result ≡ in_records self }
+    {
+        self.records
+    }
+}
