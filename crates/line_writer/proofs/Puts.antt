@@ -50,8 +50,15 @@ room_within {a} {b} {t} u whole p h le =
 pub room_left : {a b : Writer} {t : List ℕ} (u : List ℕ) → Wrote a t b → HasRoom a (t ++ u) → HasRoom b u
 room_left {t} u p h = room_within u (t ++ u) p h (omega arith)
 
--- what was written at a buffer's front
-pub wrote_front : {a b : Writer} {text : List ℕ} → a.at ≡ 0 → HasRoom a text → Wrote a text b
-    → (b.at ≡ length text) × (b.buffer.now ≡ text ++ drop (length text) a.buffer.now)
-wrote_front {a} {b} {text} front room p =
-    (omega (arith, p.put.end), p.put.stored ∙ sets-eq text a.buffer.now a.at room ∙ rw front (ap (λ (n : ℕ). text ++ drop n a.buffer.now) (omega arith)))
+-- ---- A text at the front of a buffer
+
+pub front_room : (a : Writer) (text : List ℕ) {buffer : List ℕ} → a.at ≡ 0 → a.buffer.now ≡ buffer → length text ≤ length buffer → HasRoom a text
+front_room a text front begun fits = omega (arith, ap length begun)
+
+pub front_wrote : {a b : Writer} {text buffer : List ℕ} → a.at ≡ 0 → a.buffer.now ≡ buffer → length text ≤ length buffer → Wrote a text b
+    → (b.at ≡ length text) × (b.buffer.now ≡ text ++ drop (length text) buffer)
+front_wrote {a} {b} {text} {buffer} front begun fits p =
+    let place : 0 + length text ≡ length text = omega arith in (
+      omega (arith, p.put.end),
+      p.put.stored ∙ rw (front, begun) (sets-eq text buffer 0 (omega arith)) ∙ ap (λ (n : ℕ). text ++ drop n buffer) place,
+    )

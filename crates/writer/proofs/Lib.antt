@@ -1,3 +1,2 @@
 -- Laws of what is written, each stated once.
-pub mod Laying
-pub mod FlatTexts
+pub mod LayerLines

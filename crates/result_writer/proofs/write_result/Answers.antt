@@ -11,7 +11,7 @@ use Rattle.rules.specs.Decomposition.{Run}
 use Rattle.rules.specs.Lines.{ascii, number_lines}
 use Rattle.rules.specs.ResultText.{verdict_line, result_keys, result_numbers, mask_line, mask_lines, result_text}
 use Rattle.line_writer.specs.Writing.{HasRoom, Wrote, laid}
-use Rattle.line_writer.proofs.Puts.{wrote_none, wrote_on, wrote_as, wrote_front, room_front, room_left, room_within}
+use Rattle.line_writer.proofs.Puts.{wrote_none, wrote_on, wrote_as, room_front, room_left, room_within, front_room, front_wrote}
 use Rattle.result_writer.proofs.ResultLines.{masks_next, masks_room}
 use Rattle.result_writer.proofs.write_result.Goals as goal
 use Rattle.result_writer.proofs.write_result.Goals.{After-new-out, After-bytes, After-number_lines, After-len}
@@ -21,7 +21,7 @@ counts r = number_lines result_keys (result_numbers r)
 
 -- the writer begins at the front of a buffer with room for the whole text
 room : (c : After-new-out) → HasRoom c.new-out.result (result_text (run_of c.args.res c.args.masks.now))
-room c = omega (arith, c.requires, c.new-out.ensures.at, ap length c.new-out.ensures.buffer)
+room c = front_room c.new-out.result _ c.new-out.ensures.at c.new-out.ensures.buffer c.requires
 
 verdict : (c : After-bytes) → Wrote c.new-out.result (verdict_line c.args.res.verdict) c.bytes.new.self
 verdict c = wrote_as c.verdict_line.ensures c.bytes.ensures
@@ -66,14 +66,11 @@ whole c =
 
 pub returns-clause-length : goal.returns-clause-length
 returns-clause-length c =
-    c.len.ensures ∙ (wrote_front c.new-out.ensures.at (room (goal.at.returns-clause-length c).After-new-out) (whole (goal.at.returns-clause-length c).After-len)).0
+    c.len.ensures ∙ (front_wrote c.new-out.ensures.at c.new-out.ensures.buffer c.requires (whole (goal.at.returns-clause-length c).After-len)).0
 
 -- the buffer that comes back is the writer's, since the writer kept the reference
 pub returns-clause-written : goal.returns-clause-written
 returns-clause-written c =
-    let text = result_text (run_of c.args.res c.args.masks.now) in
     let wrote = whole (goal.at.returns-clause-written c).After-len in
-    let kept : c.new-out.result.buffer.ghost_name ≡ c.loop-mask.out.buffer.ghost_name = sym wrote.reference in
-    search (rules, sym c.new-out.ensures.reference ∙ kept)
-    ∙ (wrote_front c.new-out.ensures.at (room (goal.at.returns-clause-written c).After-new-out) wrote).1
-    ∙ ap (λ (b : List ℕ). text ++ drop (length text) b) c.new-out.ensures.buffer
+    search (rules, sym c.new-out.ensures.reference ∙ sym wrote.reference)
+    ∙ (front_wrote c.new-out.ensures.at c.new-out.ensures.buffer c.requires wrote).1

@@ -1,36 +1,12 @@
-use native.Mathlib.Omega.{arith}
-use mathlib.Core.Path.{◌≡◌, refl, sym, ap, ◌∙◌}
-use Rattle.rules.specs.Basics.{up_from}
-use Rattle.rules.specs.LayerText.{fixed_lines}
-use Rattle.layout.specs.Flat.{records_of}
-use Rattle.line_writer.proofs.Puts.{put_none, put_as, put_on}
-use Rattle.writer.proofs.FlatTexts.{lines_to, fixed_next, fixed_room}
+use Rattle.std.proofs.Common.{rules}
+use Rattle.writer.proofs.LayerLines.{fixed_begun, fixed_room, fixed_more}
 use Rattle.writer.proofs.layer.write_fixed.Goals as goal
 
-pub loop-piece-init : goal.loop-piece-init
-unfolding records_of up_from fixed_lines
-loop-piece-init c = (omega arith, refl, put_none _ _)
+pub loop-i-init : goal.loop-i-init
+loop-i-init c = fixed_begun _
 
-pub write_fixed_line-end-requires : goal.write_fixed_line-end-requires
-write_fixed_line-end-requires c =
-    let loop = c.loop-piece in
-    omega (arith, loop.invariant.1, loop.invariant.2.end, c.requires.2, fixed_room c.args.fixed.now loop.piece c.args.n c.loop-piece-test.true)
+pub write_fixed_line-requires : goal.write_fixed_line-requires
+write_fixed_line-requires c = fixed_room _ _ c.loop-i-test.true c.loop-i.invariant c.requires.room
 
-pub loop-piece-preserved : goal.loop-piece-preserved
-loop-piece-preserved c =
-    let loop = c.loop-piece in
-    let args = c.args in (
-      omega arith,
-      c.write_fixed_line-end.auto.buffer ∙ loop.invariant.1,
-      put_as (sym (fixed_next args.fixed.now loop.piece)) (put_on loop.invariant.2 c.write_fixed_line-end.ensures),
-    )
-
-pub shape_of-buffer : goal.shape_of-buffer
-shape_of-buffer c = c.loop-piece.invariant.1
-
-pub returns : goal.returns
-returns c =
-    let loop = c.loop-piece in
-    let args = c.args in
-    let all : loop.piece ≡ args.n = omega arith in
-    put_as (ap (lines_to args.fixed.now) all) loop.invariant.2
+pub loop-i-preserved : goal.loop-i-preserved
+loop-i-preserved c = search (rules, fixed_more c.args.pieces.now c.loop-i.i c.loop-i-test.true c.loop-i.invariant)

@@ -1,25 +1,17 @@
 -- `write_fixed_line`: nothing, or the line. Assumes nothing.
-use native.Mathlib.Omega.{arith}
-use mathlib.Core.Path.{sym, ap}
-use lib.ListN.{length}
+use mathlib.Core.Path.{sym}
 use Rattle.rules.specs.Lines.{ascii}
-use Rattle.rules.specs.Questions.{with_fixed}
-use Rattle.rules.specs.Settings.{no_piece}
-use Rattle.line_writer.proofs.Puts.{put_none, put_as}
+use Rattle.line_writer.proofs.Puts.{wrote_none, wrote_as}
 use Rattle.text_theory.proofs.FixedLines.{no_line, a_line}
 use Rattle.writer.proofs.layer.write_fixed_line.Goals as goal
 
-pub returns-then-mask-eq-UNSET : goal.returns-then-mask-eq-UNSET
-returns-then-mask-eq-UNSET c =
-    let args = c.args in
-    put_as (sym (no_line args.i (with_fixed args.mask no_piece) c.if-mask-eq-UNSET.true)) (put_none _ _)
-
-pub write_line-requires : goal.write_line-requires
+pub line-requires-clause-room : goal.line-requires-clause-room
 unfolding ascii
-write_line-requires c = (omega arith, omega (arith, c.requires, ap length (a_line c.args.i (with_fixed c.args.mask no_piece) c.if-mask-eq-UNSET.false)))
+line-requires-clause-room c = rw c.from.ensures (rw (a_line c.args.i c.args.piece c.if-piece-ne-UNSET.true) at c.requires)
 
-pub returns : goal.returns
+pub returns-then-piece-ne-UNSET : goal.returns-then-piece-ne-UNSET
 unfolding ascii
-returns c =
-    let args = c.args in
-    put_as (sym (a_line args.i (with_fixed args.mask no_piece) c.if-mask-eq-UNSET.false)) c.write_line.ensures
+returns-then-piece-ne-UNSET c = rw (a_line c.args.i c.args.piece c.if-piece-ne-UNSET.true) (rw c.from.ensures at c.line.ensures)
+
+pub returns-else-piece-ne-UNSET : goal.returns-else-piece-ne-UNSET
+returns-else-piece-ne-UNSET c = rw (no_line c.args.i c.args.piece c.if-piece-ne-UNSET.false) (wrote_none _)
