@@ -1,5 +1,5 @@
--- Laws of the edges in a local problem, of the library's index, and of the number that says where a search ends.
+-- Laws of the edges in a local problem, of the library's index, and of where a search ends.
 pub mod Times
 pub mod Listed
 pub mod Index
-pub mod EndNumbers
+pub mod Serving

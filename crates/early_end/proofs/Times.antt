@@ -1,46 +1,54 @@
--- How many entries of a list are a place, entry by entry. Assumes nothing.
-use mathlib.Core.Bool.{Bool, true, false}
-use mathlib.Core.List.{List}
-use mathlib.Core.Logic.{◌⊎◌, ⊎_elim}
-use mathlib.Core.Path.{◌≡◌, sym, ap, ◌∙◌}
-use Prim.Native.Nat.{ℕ, ◌+◌, ◌-◌, ◌≤◌}
+-- How many entries of a list are a place: as an iterator counts them, and in a part of the list. Assumes nothing.
+use mathlib.Core.Bool.{Bool, true, false, cond}
+use mathlib.Core.List.{List, [], ◌∷◌}
+use mathlib.Core.Path.{◌≡◌, refl, sym, ap, ◌∙◌}
+use Prim.Native.Nat.{ℕ, zero, suc, ◌+◌, ◌-◌, ◌≤◌, ◌<◌}
+use native.Mathlib.Nat.{zero-add}
 use native.Mathlib.Omega.{arith}
 use lib.Dec.{eqb}
-use lib.ListN.{get_or}
-use borrow.Author.Tests.{eq-eqb, ne_eqb}
+use lib.ListN.{length, get_or, take, drop}
+use lib.Seq.{get_or-take, get_or-drop}
+use Rattle.std.specs.List.{fold, count_by, slice_range}
 use Rattle.rules.specs.Basics.{given, sum_to}
-use Rattle.rules.proofs.Sums.{sum_next, sum_le}
+use Rattle.rules.proofs.Sums.{sum_ext}
+use Rattle.rules.proofs.Tests.{eqb_sym}
 use Rattle.places.specs.Local.{times_in}
 
-given_small : (b : Bool) → given b 1 ≤ 1
-given_small true = omega arith
-given_small false = omega arith
+-- the first term of a sum
+sum_first : (f : ℕ → ℕ) (n : ℕ) → sum_to f (suc n) ≡ f 0 + sum_to (λ j. f (suc j)) n
+unfolding sum_to
+sum_first f zero = omega arith
+sum_first f (suc n) = omega (arith, sum_first f n)
 
-module _ (list : List ℕ) (u a : ℕ) where
-  -- no entry passed
-  pub times_none : (b : ℕ) → b ≤ a → times_in list u a b ≡ 0
-  unfolding sum_to
-  times_none b h = let none : b - a ≡ 0 = omega arith in rw none
+cond_given : (b : Bool) → cond b 1 0 ≡ given b 1
+cond_given true = refl
+cond_given false = refl
 
-  pub times_small : (b : ℕ) → times_in list u a b ≤ b - a
-  times_small b = sum_le (λ j. given (eqb u (get_or list (a + j) 0)) 1) (b - a) (λ j. given_small (eqb u (get_or list (a + j) 0)))
+-- those of a list, and n more
+counted : (u : ℕ) (xs : List ℕ) (n : ℕ) → fold (λ a x. a + cond (eqb x u) 1 0) n xs ≡ n + sum_to (λ j. given (eqb u (get_or xs j 0)) 1) (length xs)
+unfolding sum_to
+counted u [] n = omega arith
+counted u (x ∷ xs) n =
+    omega (
+      arith,
+      counted u xs (n + cond (eqb x u) 1 0),
+      sum_first (λ j. given (eqb u (get_or (x ∷ xs) j 0)) 1) (length xs),
+      ap {B = ℕ} (λ (b : Bool). cond b 1 0) (eqb_sym x u) ∙ cond_given (eqb u x),
+    )
 
-  -- one entry more
-  times_next : (i : ℕ) → a ≤ i → times_in list u a (i + 1) ≡ times_in list u a i + given (eqb u (get_or list i 0)) 1
-  times_next i h =
-      let left : i + 1 - a ≡ (i - a) + 1 = omega arith in
-      let here : a + (i - a) ≡ i = omega arith in
-      rw left (sum_next (λ j. given (eqb u (get_or list (a + j) 0)) 1) (i - a) ∙ ap (λ (k : ℕ). times_in list u a i + given (eqb u (get_or list k 0)) 1) here)
+-- the entries of a list that are u
+pub times_all : (xs : List ℕ) (u : ℕ) → count_by (λ x. eqb x u) xs ≡ times_in xs u 0 (length xs)
+times_all xs u =
+    let size : length xs - 0 ≡ length xs = omega arith in
+    counted u xs 0 ∙ rw (size, zero-add) (sum_ext (length xs) (λ j h. ap (λ (i : ℕ). given (eqb u (get_or xs i 0)) 1) (sym (zero-add j))))
 
-  -- which counts where it is the place
-  pub times_more : {n m : ℕ} (i : ℕ) → a ≤ i → n ≡ times_in list u a i
-      → ((get_or list i 0 ≡ u) × (m ≡ n + 1)) ⊎ ((get_or list i 0 ≡ u → ⊥) × (m ≡ n))
-      → m ≡ times_in list u a (i + 1)
-  times_more i h e w = ⊎_elim
-      (λ p.
-      let one : times_in list u a (i + 1) ≡ times_in list u a i + 1 = times_next i h ∙ rw (eq-eqb u (get_or list i 0) (sym p.0)) in
-      omega (arith, p.1))
-      (λ p.
-      let none : times_in list u a (i + 1) ≡ times_in list u a i + 0 = times_next i h ∙ rw (ne_eqb u (get_or list i 0) (λ q. p.0 (sym q))) in
-      omega (arith, p.1))
-      w
+-- those of a part
+pub times_part : (list part : List ℕ) (u a b : ℕ) → part ≡ slice_range list a b → length part + a ≡ b → times_in part u 0 (length part) ≡ times_in list u a b
+times_part list part u a b e l =
+    let size : length part - 0 ≡ b - a = omega arith in
+    rw size (sum_ext (b - a) (λ j h. ap (λ (x : ℕ). given (eqb u x) 1) (rw (e, zero-add j) (get_or-take (b - a) (drop a list) j 0 h ∙ get_or-drop a list j 0))))
+
+-- no entry
+pub times_none : (list : List ℕ) (u a b : ℕ) → b ≤ a → times_in list u a b ≡ 0
+unfolding sum_to
+times_none list u a b h = let none : b - a ≡ 0 = omega arith in rw none

@@ -3,7 +3,7 @@ use Rattle.std.proofs.Math.Option.{none, some}
 use Rattle.std.proofs.Math.Option as rules
 use Rattle.std.specs.Prelude.{ℕ, Option, Some, None}
 
--- The cost to end at, where there is one.
+-- the cost to end at, where there is one
 abbrev pub end_of : rules.Option ℕ → Option ℕ
 end_of none = None
 end_of (some b) = Some b

@@ -6,9 +6,6 @@ ghost use Rattle.places.specs.Local.{times_in, stitches_at, end_at, list_graph, 
 
 use places::Lists;
 
-// The pairs of five places, in the order of the library's bits.
-const PAIRS: [(u16, usize); 10] = [(0, 1), (0, 2), (0, 3), (0, 4), (1, 2), (1, 3), (1, 4), (2, 3), (2, 4), (3, 4)];
-
 // How many of the neighbours are place u.
 fn times_in(neighbours: &[u16], u: u16) -> u64
     ensures { result ≡ times_in neighbours.now u 0 (length neighbours.now) }
@@ -32,18 +29,31 @@ fn edges_at(lists: &Lists, size: usize, u: u16, v: usize) -> u64
     ensures { result ≡ edges_below (list_graph lists.now.starts lists.now.entries) size u v }
 {
     if v < size {
-        return conflicts_at(lists, u, v);
+        conflicts_at(lists, u, v)
+    } else {
+        0
     }
-    0
 }
 
-// The edges of the pairs of five places.
+// The edges of the ten pairs of five places, in the order of the library's bits.
 pub fn edge_counts(lists: &Lists, size: usize) -> [u64; 10]
     requires size_bound { size ≤ 512 }
     requires by_index { (k : ℕ) → k < size → PlaceLists lists.now.starts lists.now.entries k }
     ensures { result ≡ pair_edges (list_graph lists.now.starts lists.now.entries) size }
 {
-    PAIRS.map(|(u, v)| edges_at(lists, size, u, v))
+    let at = |u: u16, v: usize| edges_at(lists, size, u, v);
+    [
+        at(0, 1),
+        at(0, 2),
+        at(0, 3),
+        at(0, 4),
+        at(1, 2),
+        at(1, 3),
+        at(1, 4),
+        at(2, 3),
+        at(2, 4),
+        at(3, 4),
+    ]
 }
 
 // Whether place v has no stitch edge to an earlier place, and no conflict edge that is doubled.
@@ -52,7 +62,15 @@ fn place_listed(lists: &Lists, v: usize) -> bool
     requires place_lists { PlaceLists lists.now.starts lists.now.entries v }
     ensures { result ≡ not (unlisted_at (list_graph lists.now.starts lists.now.entries) v) }
 {
-    lists.stitches_of(v).is_empty() && (0..v).all(|u| conflicts_at(lists, u as u16, v) <= 1)
+    if !lists.stitches_of(v).is_empty() {
+        return false;
+    }
+    for u in 0..v {
+        if 1 < conflicts_at(lists, u as u16, v) {
+            return false;
+        }
+    }
+    true
 }
 
 // Whether the library lists the edges of all places.
@@ -61,5 +79,10 @@ pub fn all_listed(lists: &Lists, size: usize) -> bool
     requires by_index { (k : ℕ) → k < size → PlaceLists lists.now.starts lists.now.entries k }
     ensures { result ≡ not (any_of (unlisted_at (list_graph lists.now.starts lists.now.entries)) (up_to size)) }
 {
-    (0..size).all(|v| place_listed(lists, v))
+    for v in 0..size {
+        if !place_listed(lists, v) {
+            return false;
+        }
+    }
+    true
 }
