@@ -25,7 +25,7 @@ module _ (kinds : List Kind) (i k : ℕ) (bytes : List ℕ) where
   module _ (more : i < length kinds) (d : Kind) where
     next : left ≡ and_then (read_record (due_of (get_or kinds i d)) k bytes) λ r. pass_records (map due_of (drop (i + 1) kinds)) (k + 1) r.rest
     unfolding pass_records
-    next = rw (drop-cons kinds i d more, add-one, add-one)
+    next = rw (drop-cons kinds i d more) (rw (add-one i, add-one k))
 
     pub passes : (part rest : List ℕ) → Whole (get_or kinds i d) k bytes part rest → left ≡ pass_records (map due_of (drop (i + 1) kinds)) (k + 1) rest
     passes part rest w = next ∙ rw w.read

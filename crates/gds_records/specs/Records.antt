@@ -6,7 +6,6 @@ use Rattle.rules.specs.Answers.{refusal_of}
 use Rattle.rules.specs.Questions.{Outcome, done}
 use Rattle.rules.specs.Stream.{is_due, record_of, read_record, pass_records}
 use Rattle.gds_records.specs.declared.kinds.Kind.{Kind}
-use Rattle.gds_records.specs.declared.records.Record.{Record}
 use Rattle.gds_records.specs.Kinds.{due_of}
 
 -- a value of which a fact holds, or the refusal that the rules come to
@@ -33,13 +32,13 @@ pub record Whole (kind : Kind) (k : ℕ) (bytes part rest : List ℕ) : Type 0 w
   pub room : Room kind (length part)
   pub parts : 4 + length part + length rest ≡ length bytes
 
-abbrev pub RecordTold : Kind → ℕ → List ℕ → Result Record Refused → Type 0
-RecordTold kind k bytes = Told (read_record (due_of kind) k bytes) λ r. Whole kind k bytes r.bytes.now r.rest.now
+abbrev pub RecordTold : Kind → ℕ → List ℕ → List ℕ → Result (Bor (List ℕ)) Refused → Type 0
+RecordTold kind k bytes rest = Told (read_record (due_of kind) k bytes) λ part. Whole kind k bytes part.now rest
 
 -- the records were passed, and have a byte each at least
 pub record Passed (kinds : List Kind) (k : ℕ) (bytes rest : List ℕ) : Type 0 where
   pub read : pass_records (map due_of kinds) k bytes ≡ done rest
   pub some : length kinds + length rest ≤ length bytes
 
-abbrev pub PassTold : List Kind → ℕ → List ℕ → Result (Bor (List ℕ)) Refused → Type 0
-PassTold kinds k bytes = Told (pass_records (map due_of kinds) k bytes) λ rest. Passed kinds k bytes rest.now
+abbrev pub PassTold : List Kind → ℕ → List ℕ → List ℕ → Result (Unit {0}) Refused → Type 0
+PassTold kinds k bytes rest = Told (pass_records (map due_of kinds) k bytes) λ _. Passed kinds k bytes rest

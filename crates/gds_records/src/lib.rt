@@ -6,4 +6,4 @@ mod kinds;
 mod records;
 
 pub use kinds::Kind;
-pub use records::{is_due, pass_records, read_record};
+pub use records::Records;

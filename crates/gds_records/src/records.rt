@@ -1,5 +1,6 @@
 // Records: the one that is due, and several one after the other.
-ghost use Rattle.std.specs.Prelude.{false, ◌≡◌, ◌+◌, ◌<◌, length, MatchOption};
+ghost use Rattle.std.specs.Prelude.{false, ◌≡◌, ◌+◌, ◌≤◌, length, MatchOption, OnErr, OnOk};
+ghost use Rattle.rules.specs.declared.refusal.Place.{Place};
 ghost use Rattle.rules.specs.Stream.{is_due};
 ghost use Rattle.gds_records.specs.Kinds.{due_of};
 ghost use Rattle.gds_records.specs.Records.{Room, Due, RecordTold, PassTold};
@@ -10,9 +11,9 @@ use rules::{Place, Refusal, Refused};
 
 // The data of a record, and the bytes after it.
 #[derive(Clone, Copy)]
-pub struct Record<'a> {
-    pub bytes: &'a [u8],
-    pub rest: &'a [u8],
+struct Record<'a> {
+    bytes: &'a [u8],
+    rest: &'a [u8],
 }
 
 // The record that the bytes start with, if it is whole and of this kind.
@@ -43,13 +44,6 @@ fn due_record(bytes: &[u8], kind: Kind) -> Option<Record<'_>>
     }
 }
 
-// Whether the bytes start with a whole record of this kind.
-pub fn is_due(bytes: &[u8], kind: Kind) -> bool
-    ensures { result ≡ is_due (due_of kind) bytes.now }
-{
-    due_record(bytes, kind).is_some()
-}
-
 // Whether the data of a record of this kind are right.
 fn is_right(bytes: &[u8], kind: Kind) -> bool
     requires { Room kind (length bytes.now) }
@@ -64,28 +58,55 @@ fn is_right(bytes: &[u8], kind: Kind) -> bool
     }
 }
 
-// The record that the bytes start with, which is to be of this kind and is record k.
-#[tactic(auto, unfolding(rules::specs::Stream::read_record))]
-pub fn read_record(bytes: &[u8], kind: Kind, k: u32) -> Result<Record<'_>, Refused>
-    ensures { RecordTold kind k bytes.now result }
-{
-    let Some(record) = due_record(bytes, kind) else {
-        return Err(Refusal::Record.at(Place::Record(k)));
-    };
-    if !is_right(record.bytes, kind) {
-        return Err(kind.refusal().at(Place::Record(k)));
-    }
-    Ok(record)
+// The records of a stream from one of them on: its number, from 1, and the bytes that are left. Each record has a byte at least.
+#[derive(Clone, Copy)]
+pub struct Records<'a> {
+    pub number: u32,
+    pub rest: &'a [u8],
+    ghost room: { number + length rest.now ≤ 4_294_967_295 },
 }
 
-// The bytes after records of these kinds, one after the other, of which the first is record k.
-pub fn pass_records<'a>(bytes: &'a [u8], kinds: &[Kind], k: u32) -> Result<&'a [u8], Refused>
-    requires { length kinds.now + k < 1_000_000 }
-    ensures { PassTold kinds.now k bytes.now result }
-{
-    let mut rest = bytes;
-    for (i, kind) in kinds.iter().enumerate() {
-        rest = read_record(rest, *kind, k + i as u32)?.rest;
+impl<'a> Records<'a> {
+    // Where the next record stands.
+    pub fn place(&self) -> Place
+        ensures { result ≡ Place.Record self.now.number }
+    {
+        Place::Record(self.number)
     }
-    Ok(rest)
+
+    // Whether the next record is whole and of this kind.
+    pub fn is_due(&self, kind: Kind) -> bool
+        ensures { result ≡ is_due (due_of kind) self.now.rest.now }
+    {
+        due_record(self.rest, kind).is_some()
+    }
+
+    // The data of the next record, which is to be of this kind.
+    #[tactic(auto, unfolding(rules::specs::Stream::read_record))]
+    pub fn read(&mut self, kind: Kind) -> Result<&'a [u8], Refused>
+        ensures record { RecordTold kind self.old.number self.old.rest.now self.new.rest.now result }
+        ensures number { OnOk result (self.new.number ≡ self.old.number + 1) }
+        ensures refused { OnErr result (self.new ≡ self.old) }
+    {
+        let Some(record) = due_record(self.rest, kind) else {
+            return Err(Refusal::Record.at(self.place()));
+        };
+        if !is_right(record.bytes, kind) {
+            return Err(kind.refusal().at(self.place()));
+        }
+        self.number += 1;
+        self.rest = record.rest;
+        Ok(record.bytes)
+    }
+
+    // Passes the next records, which are to be of these kinds. After a refusal it is not said how far it has come.
+    pub fn pass(&mut self, kinds: &[Kind]) -> Result<(), Refused>
+        ensures records { PassTold kinds.now self.old.number self.old.rest.now self.new.rest.now result }
+        ensures number { OnOk result (self.new.number ≡ self.old.number + length kinds.now) }
+    {
+        for kind in kinds {
+            self.read(*kind)?;
+        }
+        Ok(())
+    }
 }
