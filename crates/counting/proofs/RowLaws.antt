@@ -43,15 +43,15 @@ module _ (edge : Edge) (words masks : List ℕ) (j : ℕ) where
     pub sum : count + sum_to (left rest) j ≡ sum_to row j
 
   pub counting_start : BothWays words → j < 512 → (below : List ℕ) {rest : List ℕ} → ((k : ℕ) → member below k ≡ ltb k j)
-      → ((k : ℕ) → k < 512 → member rest k ≡ both words j below k) → Counting rest 0
+      → ((k : ℕ) → member rest k ≡ both words j below k) → Counting rest 0
   counting_start symmetric small below {rest} b e = record {
-    lesser = λ u h m. ltb-true u j (sym (b u) ∙ and_right (has_edge words j u) (member below u) (sym (e u h) ∙ m));
+    lesser = λ u h m. ltb-true u j (sym (b u) ∙ and_right (has_edge words j u) (member below u) (sym (e u) ∙ m));
     sum = omega (arith, sum_ext {f = left rest} {g = row} j (λ u l. same u l));
   }
     where
       same : (u : ℕ) → u < j → left rest u ≡ row u
       same u l =
-          rw (e u (omega arith), b u, lt-ltb u j l, and-true, symmetric j u small (omega arith))
+          rw (e u, b u, lt-ltb u j l, and-true, symmetric j u small (omega arith))
           (given_swap (has_edge words u j) (edge_counts edge (mask_of masks u) (mask_of masks j)))
 
   -- the count stays small

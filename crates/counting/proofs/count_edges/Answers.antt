@@ -28,4 +28,4 @@ pub loop-i-preserved : goal.loop-i-preserved
 loop-i-preserved c = counting_next _ _ _ _ c.loop-i.invariant c.in-Some.ensures.steps _ (term (goal.at.loop-i-preserved c).After-from-count)
 
 pub returns : goal.returns
-returns c = counting_end _ _ _ _ c.loop-i.invariant c.in-None.ensures.steps c.requires.j_bound
+returns c = counting_end _ _ _ _ c.loop-i.invariant c.in-None.ensures.steps.0 c.requires.j_bound
