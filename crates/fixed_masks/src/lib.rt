@@ -2,67 +2,46 @@
 // Reading, writing, scoring and the decomposition stand on this crate.
 #![tactic(auto)]
 
-ghost use Rattle.std.specs.Prelude.{◌≡◌, ◌≤◌};
-ghost use Rattle.rules.specs.Basics.{up_to, any_of};
-ghost use Rattle.rules.specs.Score.{is_set};
+ghost use Rattle.std.specs.Prelude.{◌≡◌, ◌≤◌, length};
+ghost use Rattle.rules.specs.Answers.{answer_of};
 ghost use Rattle.rules.specs.Questions.{judge_fixed, judge_layer};
-ghost use Rattle.layout.specs.Flat.{records_of};
-ghost use Rattle.layout.specs.Judged.{judgement};
 
-use layout::Judgement;
-use rules::{Piece, Place, Refusal, Settings};
-
-// Whether one of the first n pieces has a fixed mask.
-fn any_fixed(fixed: &[u8; 512], n: usize) -> bool
-    requires { n ≤ 512 }
-    ensures { result ≡ any_of (is_set fixed.now) (up_to n) }
-{
-    let mut i = 0;
-    while i < n {
-        if fixed[i] != Piece::UNSET {
-            return true;
-        }
-        i += 1;
-    }
-    false
-}
+use bitset::Matrix;
+use rules::{Piece, Place, Refusal, Refused, Settings};
 
 // Question 14 by the units of the pieces: the first piece that differs from an earlier one is the first that differs from the lowest one with a fixed mask.
-fn judge_units(settings: Settings, flat: &[u32; 2560], fixed: &[u8; 512], n: usize) -> Judgement
-    requires { n ≤ 512 }
-    ensures { judgement result ≡ judge_fixed settings (records_of flat.now fixed.now n) }
+fn judge_units(settings: Settings, pieces: &[Piece]) -> Result<(), Refused>
+    requires { length pieces.now ≤ 512 }
+    ensures { answer_of result ≡ judge_fixed settings pieces.now }
 {
-    let mut ties = [0u64; 4096];
+    let mut ties = Matrix::empty();
     let mut units = [0u16; 512];
     let mut noted = [Piece::UNSET; 512];
-    adjacency::tie_words(settings, flat, n, &mut ties);
-    units::number_units(&ties, n, &mut units);
-    let all: &[u8] = fixed;
-    let first = units::note_masks(&units, &all[..n], &mut noted);
-    if first < n {
-        return Judgement::Refused(Refusal::FixedSplit, Place::Piece(first as u32));
+    adjacency::tie_words(settings, pieces, &mut ties);
+    units::number_units(&ties, pieces.len(), &mut units);
+    let masks = units::fixed_masks_of(pieces);
+    match units::note_masks(&units, &masks[..pieces.len()], &mut noted) {
+        Some(first) => Err(Refusal::FixedSplit.at(Place::Piece(first as u32))),
+        None => Ok(()),
     }
-    Judgement::Passed
 }
 
-// Question 14 of the first n pieces. Units are looked for only where a mask is fixed.
-pub fn judge_fixed(settings: Settings, flat: &[u32; 2560], fixed: &[u8; 512], n: usize) -> Judgement
-    requires { n ≤ 512 }
-    ensures { judgement result ≡ judge_fixed settings (records_of flat.now fixed.now n) }
+// Question 14 of the pieces. Units are looked for only where a mask is fixed.
+pub fn judge_fixed(settings: Settings, pieces: &[Piece]) -> Result<(), Refused>
+    requires { length pieces.now ≤ 512 }
+    ensures { answer_of result ≡ judge_fixed settings pieces.now }
 {
-    if !any_fixed(fixed, n) {
-        return Judgement::Passed;
+    if pieces.iter().all(|piece| piece.fixed == Piece::UNSET) {
+        return Ok(());
     }
-    judge_units(settings, flat, fixed, n)
+    judge_units(settings, pieces)
 }
 
-// The whole judgement of the layer of the first n pieces: questions 4 to 6 and 13, then 14.
-pub fn judge(settings: Settings, flat: &[u32; 2560], fixed: &[u8; 512], n: usize) -> Judgement
-    ensures { judgement result ≡ judge_layer settings (records_of flat.now fixed.now n) }
+// The whole judgement of the layer of these pieces: questions 4 to 6 and 13, then 14.
+#[tactic(auto, using(crate::proofs::FixedLaws::records_few), unfolding(rules::specs::Questions::judge_layer))]
+pub fn judge(settings: Settings, pieces: &[Piece]) -> Result<(), Refused>
+    ensures { answer_of result ≡ judge_layer settings pieces.now }
 {
-    let records = layout::judge(settings, flat, fixed, n);
-    if let Judgement::Refused(refusal, place) = records {
-        return Judgement::Refused(refusal, place);
-    }
-    judge_fixed(settings, flat, fixed, n)
+    layout::judge(settings, pieces)?;
+    judge_fixed(settings, pieces)
 }
