@@ -1,13 +1,13 @@
 -- What was read and handed back, as an outcome. Assumes nothing: these are definitions.
-use Rattle.std.specs.Prelude.{◌≤◌, take}
+use Rattle.std.specs.Prelude.{◌≤◌, take, Result, Ok, Err}
 use Rattle.rules.specs.declared.answers.LayerRead.{LayerRead}
-use Rattle.rules.specs.declared.answers.ReadAnswer.{ReadAnswer}
-use Rattle.rules.specs.Answers.{refusal_number}
-use Rattle.rules.specs.Questions.{Outcome, done, refused, Layer, Valid}
+use Rattle.rules.specs.declared.refusal.Refused.{Refused}
+use Rattle.rules.specs.Answers.{refusal_of}
+use Rattle.rules.specs.Questions.{Outcome, done, Layer, Valid}
 
-abbrev pub answered : ReadAnswer → Layer → Outcome Layer
-answered ReadAnswer.Read l = done l
-answered (ReadAnswer.Refused q place) l = refused (refusal_number q) place
+abbrev pub answered : Result (Unit {0}) Refused → Layer → Outcome Layer
+answered (Ok u) l = done l
+answered (Err r) l = refusal_of r
 
 -- the layer of the first records, or the refusal
 abbrev pub outcome_of : LayerRead → Outcome Layer

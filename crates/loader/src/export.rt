@@ -1,22 +1,22 @@
 // The functions for C. The static library `loader_c` has them under these names, and C programs link that.
 ghost use Rattle.std.specs.Prelude.{◌≡◌};
-ghost use Rattle.rules.specs.Answers.{write_answer};
+ghost use Rattle.rules.specs.Answers.{answer_of};
 ghost use Rattle.rules.specs.Calls.{decompose_text, decompose_stream, buffer_after};
 ghost use Rattle.rules.specs.Demands.{Demand3OfText, Demand3OfStream};
 ghost use Rattle.rules.specs.Loader.{loader_number};
 ghost use Rattle.loader.specs.Numbers.{as_number};
 
 use crate::call::{decompose_stream, decompose_text};
-use rules::WriteAnswer;
+use rules::Refused;
 
 // The length of the result text, or a number that states the refusal: a caller in C has no enums of ours to take apart.
-fn number_of(answer: WriteAnswer) -> u64
-    ensures { result ≡ as_number (write_answer answer) }
+fn number_of(answer: Result<usize, Refused>) -> u64
+    ensures { result ≡ as_number (answer_of answer) }
 {
     match answer {
-        WriteAnswer::Written(length) => length as u64,
-        WriteAnswer::Refused(refusal, place) => {
-            10_000 * (refusal.number() as u64) + place.number() as u64
+        Ok(length) => length as u64,
+        Err(Refused { refusal, place }) => {
+            10_000 * u64::from(refusal.number()) + u64::from(place.number())
         }
     }
 }
