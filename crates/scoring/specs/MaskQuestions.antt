@@ -1,5 +1,5 @@
 -- The questions of given masks, and the score after them. Assumes nothing: these are definitions.
-use Rattle.std.specs.Prelude.{Bool, not, ◌||◌, List, ℕ, eqb, ltb}
+use Rattle.std.specs.Prelude.{Bool, not, ◌||◌, List, ℕ, eqb, ltb, length}
 use Rattle.rules.specs.declared.layer.Settings.{Settings}
 use Rattle.rules.specs.declared.layer.Piece.{Piece}
 use Rattle.rules.specs.declared.answers.Scoring.{Scoring}
@@ -9,7 +9,7 @@ use Rattle.rules.specs.Settings.{unset}
 use Rattle.rules.specs.Score.{mask_of, is_set, cost_of, score_of, pairs_of}
 use Rattle.rules.specs.Units.{unit_of, fits_unit}
 use Rattle.rules.specs.Questions.{Outcome, done, ask, and_then, ask_each}
-use Rattle.pair_tests.specs.declared.Tally.{Tally}
+use Rattle.pair_tests.specs.declared.tally.Tally.{Tally}
 
 -- whether a mask is not set, or below the limit
 abbrev pub allowed_mask : ℕ → ℕ → Bool
@@ -24,8 +24,8 @@ abbrev pub unit_question : (ℕ → ℕ) → ℕ → List ℕ → ℕ → Outcom
 unit_question unit n masks i = ask (fits_unit unit n masks i) 12 (Place.Piece i)
 
 -- the score, and beside it the pairs tested
-abbrev pub scoring_of : Settings → List Piece → ℕ → List ℕ → Scoring
-scoring_of s ps n masks = record { score = score_of s.weight (graph_of s ps) masks n; tested = pairs_of n }
+abbrev pub scoring_of : Settings → List Piece → List ℕ → Scoring
+scoring_of s ps masks = record { score = score_of s.weight (graph_of s ps) masks (length ps); tested = pairs_of (length ps) }
 
 -- the score of what was counted
 abbrev pub tallied : ℕ → Tally → Scoring
@@ -35,5 +35,5 @@ tallied weight t = record {
 }
 
 -- 12 of every piece, then the score
-abbrev pub units_scored : Settings → List Piece → ℕ → List ℕ → Outcome Scoring
-units_scored s ps n masks = and_then (ask_each (unit_question (unit_of s ps) n masks) n) λ _. done (scoring_of s ps n masks)
+abbrev pub units_scored : Settings → List Piece → List ℕ → Outcome Scoring
+units_scored s ps masks = and_then (ask_each (unit_question (unit_of s ps) (length ps) masks) (length ps)) λ _. done (scoring_of s ps masks)

@@ -1,7 +1,7 @@
-// What given masks score on any numbers (RULES 3), with the questions of RULES 11 before it: one pass over the pairs of pieces counts it. The public call on records
-// stands on `score_flat`.
+// What given masks score on any pieces (RULES 3), with the questions of RULES 11 before it: one pass over the pairs of pieces counts it. The public call on
+// records hands on to `score`.
 #![tactic(auto)]
 
-mod flat;
+mod scores;
 
-pub use flat::score_flat;
+pub use scores::score;

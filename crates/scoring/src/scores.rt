@@ -1,0 +1,88 @@
+// Scores, with the questions before them.
+ghost use Rattle.std.specs.Prelude.{◌≡◌, ℕ, ◌<◌, ◌≤◌, length};
+ghost use Rattle.rules.specs.Answers.{answer_of};
+ghost use Rattle.rules.specs.Calls.{score_masks};
+ghost use Rattle.rules.specs.Questions.{ask_each, Valid};
+ghost use Rattle.adjacency.specs.UnitGraph.{unit_at};
+ghost use Rattle.scoring.specs.MaskQuestions.{allowed_mask, mask_question, unit_question, tallied, units_scored};
+
+use bitset::Matrix;
+use counting::cost_of;
+use pair_tests::{Tally, test_pairs};
+use rules::{Piece, Place, Refusal, Refused, Score, Scoring, Settings};
+
+// Whether a mask is below the limit, or not set.
+fn allowed(limit: u32, mask: u8) -> bool
+    ensures { result ≡ allowed_mask limit mask }
+{
+    mask == Piece::UNSET || u32::from(mask) < limit
+}
+
+// Question 8 of each mask.
+fn judge_masks(limit: u32, masks: &[u8]) -> Result<(), Refused>
+    requires { length masks.now ≤ 512 }
+    ensures { answer_of result ≡ ask_each (mask_question limit masks.now) (length masks.now) }
+{
+    for (i, mask) in masks.iter().enumerate() {
+        if !allowed(limit, *mask) {
+            return Err(Refusal::MaskRange.at(Place::Piece(i as u32)));
+        }
+    }
+    Ok(())
+}
+
+// Question 12: each set piece has the mask of its unit's lowest set piece.
+fn judge_units(units: &[u16; 512], masks: &[u8]) -> Result<(), Refused>
+    requires masks_len_bound { length masks.now ≤ 512 }
+    requires by_index { (i : ℕ) → i < length masks.now → unit_at units.now i < length masks.now }
+    ensures { answer_of result ≡ ask_each (unit_question (unit_at units.now) (length masks.now) masks.now) (length masks.now) }
+{
+    let mut noted = [Piece::UNSET; 512];
+    match units::note_masks(units, masks, &mut noted) {
+        Some(first) => Err(Refusal::Split.at(Place::Piece(first as u32))),
+        None => Ok(()),
+    }
+}
+
+// The score of the counted conflicts and stitches, and beside it the pairs tested.
+fn scoring_of(weight: u32, tally: Tally) -> Scoring
+    requires weight_bound { weight ≤ 1000 }
+    requires conflicts_bound { tally.conflicts ≤ 130816 }
+    requires stitches_bound { tally.stitches ≤ 130816 }
+    ensures { result ≡ tallied weight tally }
+{
+    Scoring {
+        score: Score {
+            conflicts: tally.conflicts,
+            stitches: tally.stitches,
+            cost: cost_of(weight, tally.conflicts, tally.stitches),
+        },
+        tested: tally.tested,
+    }
+}
+
+// The score of masks on a judged layer, or refusal 12.
+fn score_units(settings: Settings, pieces: &[Piece], masks: &[u8]) -> Result<Scoring, Refused>
+    requires valid { Valid settings pieces.now }
+    requires masks_len { length masks.now ≡ length pieces.now }
+    ensures { answer_of result ≡ units_scored settings pieces.now masks.now }
+{
+    let mut ties = Matrix::empty();
+    let mut units = [0u16; 512];
+    let tally = test_pairs(settings, pieces, masks, &mut ties);
+    units::number_units(&ties, pieces.len(), &mut units);
+    judge_units(&units, masks)?;
+    Ok(scoring_of(settings.weight, tally))
+}
+
+// The score of any masks on any pieces, with the number of pairs tested, or the first of the refusals 4 to 6, 13, 14, 7, 8 and 12.
+pub fn score(settings: Settings, pieces: &[Piece], masks: &[u8]) -> Result<Scoring, Refused>
+    ensures { answer_of result ≡ score_masks settings pieces.now masks.now }
+{
+    fixed_masks::judge(settings, pieces)?;
+    if masks.len() != pieces.len() {
+        return Err(Refusal::MaskCount.at(Place::Nothing));
+    }
+    judge_masks(settings.masks, masks)?;
+    score_units(settings, pieces, masks)
+}
