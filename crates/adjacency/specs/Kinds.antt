@@ -2,13 +2,6 @@
 use Rattle.std.specs.Prelude.{Bool, true, false}
 use Rattle.rules.specs.declared.layer.Edge.{Edge}
 
--- an edge or a tie
-abbrev pub is_some : Edge → Bool
-is_some Edge.Conflict = true
-is_some Edge.Stitch = true
-is_some Edge.Tie = true
-is_some Edge.None = false
-
 abbrev pub is_conflict : Edge → Bool
 is_conflict Edge.Conflict = true
 is_conflict Edge.Stitch = false

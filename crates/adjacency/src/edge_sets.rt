@@ -34,9 +34,9 @@ impl EdgeSets {
 fn join_by(edge: Edge, i: usize, j: usize, edges: &mut EdgeSets, ties: &mut Matrix)
     requires i_bound { i < 512 }
     requires j_bound { j < 512 }
-    ensures by_index { (a b : ℕ) → b < 512 → has_edge edges.new.conflicts a b ≡ (has_edge edges.old.conflicts a b || (is_conflict edge && is_pair i j a b)) }
-    ensures by_index_2 { (a b : ℕ) → b < 512 → has_edge edges.new.stitches a b ≡ (has_edge edges.old.stitches a b || (is_stitch edge && is_pair i j a b)) }
-    ensures by_index_3 { (a b : ℕ) → b < 512 → has_edge ties.new a b ≡ (has_edge ties.old a b || (is_tie edge && is_pair i j a b)) }
+    ensures conflicts { (a b : ℕ) → b < 512 → has_edge edges.new.conflicts a b ≡ (has_edge edges.old.conflicts a b || (is_conflict edge && is_pair i j a b)) }
+    ensures stitches { (a b : ℕ) → b < 512 → has_edge edges.new.stitches a b ≡ (has_edge edges.old.stitches a b || (is_stitch edge && is_pair i j a b)) }
+    ensures ties { (a b : ℕ) → b < 512 → has_edge ties.new a b ≡ (has_edge ties.old a b || (is_tie edge && is_pair i j a b)) }
 {
     match edge {
         Edge::Conflict => edges.conflicts.join(i, j),
@@ -59,9 +59,9 @@ fn adjacency_row(
     requires few { length pieces.now ≤ 512 }
     requires settings_value { settings_in_range settings ≡ true }
     requires by_index { (i : ℕ) → i ≤ j → piece_in_range (piece_at pieces.now i) ≡ true }
-    ensures row_to { RowTo (conflict_of settings pieces.now) j j edges.old.conflicts edges.new.conflicts }
-    ensures row_to_2 { RowTo (stitch_of settings pieces.now) j j edges.old.stitches edges.new.stitches }
-    ensures row_to_3 { RowTo (tie_of settings pieces.now) j j ties.old ties.new }
+    ensures conflicts { RowTo (conflict_of settings pieces.now) j j edges.old.conflicts edges.new.conflicts }
+    ensures stitches { RowTo (stitch_of settings pieces.now) j j edges.old.stitches edges.new.stitches }
+    ensures ties { RowTo (tie_of settings pieces.now) j j ties.old ties.new }
 {
     let reach = Reach::of(settings, pieces[j]);
     for (i, earlier) in pieces[..j].iter().enumerate() {

@@ -18,7 +18,7 @@ loop-i-preserved c =
     let edge : c.edge_from.result ≡ edge_of s (piece_at ps i) (piece_at ps j)
     = rw (get_or-take j ps i no_piece low, c.of-reach.ensures.settings, c.of-reach.ensures.piece) at c.edge_from.ensures in
     record {
-      conflicts = row_more _ (λ a b. conflict_sym s _ _) i j _ (omega arith) (rw edge (conflict_kind s _ _)) row.conflicts c.join_by.ensures.by_index;
-      stitches = row_more _ (λ a b. stitch_sym s _ _) i j _ (omega arith) (rw edge (stitch_kind s _ _)) row.stitches c.join_by.ensures.by_index_2;
-      ties = row_more _ (λ a b. tie_sym s _ _) i j _ (omega arith) (rw edge (tie_kind s _ _)) row.ties c.join_by.ensures.by_index_3;
+      conflicts = row_more _ (λ a b. conflict_sym s _ _) i j _ (omega arith) (rw edge (conflict_kind s _ _)) row.conflicts c.join_by.ensures.conflicts;
+      stitches = row_more _ (λ a b. stitch_sym s _ _) i j _ (omega arith) (rw edge (stitch_kind s _ _)) row.stitches c.join_by.ensures.stitches;
+      ties = row_more _ (λ a b. tie_sym s _ _) i j _ (omega arith) (rw edge (tie_kind s _ _)) row.ties c.join_by.ensures.ties;
     }

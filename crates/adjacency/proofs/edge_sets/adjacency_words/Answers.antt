@@ -1,7 +1,7 @@
 use Rattle.std.proofs.Common.{◌≡◌, length, arith}
 use Rattle.rules.proofs.Reading.{few}
 use Rattle.rules.proofs.Validity.{valid_sound}
-use Rattle.adjacency.proofs.AdjacencyLaws.{rows_none, rows_adjacency, rows_ties}
+use Rattle.adjacency.proofs.AdjacencyLaws.{rows_none, rows_more, rows_adjacency, rows_ties}
 use Rattle.adjacency.proofs.edge_sets.adjacency_words.Goals as goal
 
 pub loop-j-init : goal.loop-j-init
@@ -20,6 +20,13 @@ adjacency_row-requires c =
       settings_value = f.settings;
       by_index = λ i h. f.ranges i (omega arith);
     }
+
+pub loop-j-preserved : goal.loop-j-preserved
+loop-j-preserved c = record {
+  conflicts = rows_more _ _ c.loop-j.invariant.conflicts c.adjacency_row.ensures.conflicts;
+  stitches = rows_more _ _ c.loop-j.invariant.stitches c.adjacency_row.ensures.stitches;
+  ties = rows_more _ _ c.loop-j.invariant.ties c.adjacency_row.ensures.ties;
+}
 
 pub returns : goal.returns
 returns c =

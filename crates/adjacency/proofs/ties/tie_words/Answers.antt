@@ -1,5 +1,8 @@
-use Rattle.adjacency.proofs.TieLaws.{whole_none}
+use Rattle.std.proofs.Common.{max, arith}
+use mathlib.Core.Bool.{and-false}
+use borrow.Author.Tests.{le-ltb}
+use Rattle.bitset.proofs.Sets.{member_none}
 use Rattle.adjacency.proofs.ties.tie_words.Goals as goal
 
 pub loop-j-init : goal.loop-j-init
-loop-j-init c = whole_none _ c.clear.ensures
+loop-j-init c = λ a b h. rw (c.clear.ensures, le-ltb (max a b) 0 (omega arith), and-false) (member_none 4096 _)
