@@ -45,7 +45,6 @@ pub fn read_all_fixed(
     mut pieces: Pieces,
 ) -> Result<Pieces, Refused>
     requires masks { masks ≤ 8 }
-    requires few { length pieces ≤ 512 }
     requires room { reader.old.line + length pieces < 4_294_967_295 }
     ensures { answer_of result ≡ read_all_fixed (length reader.old.rest.now) masks 0 reader.old.line pieces reader.old.rest.now }
 {

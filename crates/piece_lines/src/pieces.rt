@@ -1,6 +1,6 @@
 // The piece lines. A line's form is judged whole before any range, and its ranges before its area. After a refusal it is not said how far
 // the reader has come.
-ghost use Rattle.std.specs.Prelude.{◌≡◌, ◌+◌, ◌<◌, ◌≤◌, OnOk};
+ghost use Rattle.std.specs.Prelude.{◌≡◌, ◌+◌, ◌<◌, ◌≤◌, IfOk, OnOk, length};
 ghost use Rattle.lines.specs.Readers.{answer_as};
 ghost use Rattle.rules.specs.Questions.{PieceRead, PiecesRead, piece_from, read_piece, read_pieces};
 
@@ -41,6 +41,7 @@ pub fn read_pieces(reader: &mut Reader, count: usize) -> Result<Pieces, Refused>
     requires few { count ≤ 512 }
     requires room { reader.old.line + count ≤ 4_294_967_295 }
     ensures pieces { answer_as {B = PiecesRead} (λ ps. record { pieces = ps; rest = reader.new.rest.now }) result ≡ read_pieces count reader.old.line reader.old.rest.now }
+    ensures many { IfOk result (λ ps. length ps ≡ count) }
     ensures line { OnOk result (reader.new.line ≡ reader.old.line + count) }
 {
     let mut pieces = Pieces::none();

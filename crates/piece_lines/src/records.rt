@@ -41,7 +41,8 @@ impl Pieces {
     }
 
     pub fn as_slice(&self) -> &[Piece]
-        ensures { result.now ≡ self.now }
+        ensures value { result.now ≡ self.now }
+        ensures few { length self.now ≤ 512 }
     {
         &self.records[..self.count]
     }
@@ -64,7 +65,8 @@ impl Pieces {
     }
 
     pub fn len(&self) -> usize
-        ensures { result ≡ length self.now }
+        ensures value { result ≡ length self.now }
+        ensures few { result ≤ 512 }
     {
         self.count
     }
