@@ -1,4 +1,5 @@
 -- What a layer that was handed back says of what was read, be it a layer text or a stream. Whoever calls a reader stands on it. Assumes nothing.
+use Rattle.std.proofs.Common.{Ok, Err}
 use mathlib.Core.List.{List}
 use mathlib.Core.Path.{◌≡◌, refl, sym, ap, ap₂, subst₂, ◌∙◌}
 use Prim.Native.Nat.{ℕ, ◌-◌, ◌≤◌}
@@ -6,23 +7,21 @@ use native.Mathlib.Omega.{arith}
 use lib.ListN.{length, take, replicate}
 use lib.Seq.{take-append_seam}
 use Rattle.rules.specs.declared.layer.Piece.{Piece}
-use Rattle.rules.specs.declared.refusal.Refusal.{Refusal}
+use Rattle.rules.specs.declared.refusal.Refused.{Refused}
 use Rattle.rules.specs.declared.refusal.Place.{Place}
-use Rattle.rules.specs.declared.answers.ReadAnswer.{ReadAnswer}
 use Rattle.rules.specs.declared.answers.LayerRead.{LayerRead}
 use Rattle.rules.specs.Settings.{no_piece}
-use Rattle.rules.specs.Answers.{refusal_number, read_answer, HandedBack}
+use Rattle.rules.specs.Answers.{refusal_of, answer_of, HandedBack}
 use Rattle.rules.specs.Questions.{Outcome, done, refused, Layer, Valid}
 use Rattle.rules.proofs.Ranges.{within_facts}
 use Rattle.rules.proofs.Validity.{valid_sound}
 
-pub handed_refused : (o : Outcome Layer) (r : LayerRead) (q : Refusal) (place : Place) → HandedBack o r → r.answer ≡ ReadAnswer.Refused q place
-    → o ≡ refused (refusal_number q) place
-handed_refused (done l) r q place h e =
-    let other : ◌≡◌ {A = Outcome (Unit {0})} (done tt) (refused (refusal_number q) place) = sym h.answer ∙ ap read_answer e in
-    let z : ◌≡◌ {A = ℕ} 0 1 = cc in absurd (omega arith)
-handed_refused (refused number p) r q place h e =
-    let same : ◌≡◌ {A = Outcome (Unit {0})} (refused number p) (refused (refusal_number q) place) = sym h.answer ∙ ap read_answer e in
+pub handed_refused : (o : Outcome Layer) (r : LayerRead) (x : Refused) → HandedBack o r → r.answer ≡ Err x → o ≡ refusal_of x
+handed_refused (done l) r x h e =
+    let other : ◌≡◌ {A = Outcome (Unit {0})} (done tt) (refusal_of x) = sym h.answer ∙ ap answer_of e in
+    absurd (cc other)
+handed_refused (refused number p) r x h e =
+    let same : ◌≡◌ {A = Outcome (Unit {0})} (refused number p) (refusal_of x) = sym h.answer ∙ ap answer_of e in
     ap₂ (λ (n : ℕ) (x : Place). refused n x) (cc) (cc)
 
 -- the layer that was read, in its records
@@ -33,7 +32,7 @@ pub record WasRead (o : Outcome Layer) (r : LayerRead) : Type 0 where
   pub pieces : take r.count r.pieces ≡ layer.pieces
   pub count : r.count ≡ length layer.pieces
 
-pub handed_read : (o : Outcome Layer) (r : LayerRead) → HandedBack o r → r.answer ≡ ReadAnswer.Read → WasRead o r
+pub handed_read : (o : Outcome Layer) (r : LayerRead) → HandedBack o r → r.answer ≡ Ok tt → WasRead o r
 handed_read (done l) r h e = record {
   layer = l;
   read = refl;
@@ -42,8 +41,8 @@ handed_read (done l) r h e = record {
   count = h.count;
 }
 handed_read (refused number p) r h e =
-    let other : ◌≡◌ {A = Outcome (Unit {0})} (done tt) (refused number p) = ap read_answer (sym e) ∙ h.answer in
-    let z : ◌≡◌ {A = ℕ} 0 1 = cc in absurd (omega arith)
+    let other : ◌≡◌ {A = Outcome (Unit {0})} (done tt) (refused number p) = ap answer_of (sym e) ∙ h.answer in
+    absurd (cc other)
 
 -- every layer that comes of the reading is valid
 abbrev pub ReadsValid : Outcome Layer → Type 0

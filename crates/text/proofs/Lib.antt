@@ -1,4 +1,3 @@
 -- Laws of reading a layer text, each stated once.
 pub mod HeaderLines
-pub mod LayerReading
 pub mod HandedLayers

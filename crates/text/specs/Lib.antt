@@ -1,1 +1,1 @@
-pub mod Header
+pub mod Layers

@@ -1,121 +1,55 @@
-// The six lines before the pieces: the settings and the number of pieces.
-ghost use Rattle.std.specs.Prelude.{◌≡◌, ◌<◌, ◌+◌, get_or};
-ghost use Rattle.rules.specs.Questions.{settings_from};
-ghost use Rattle.rules.specs.Settings.{within};
+// The six lines before the pieces: the settings and the number of pieces. After a refusal it is not said how far the reader has come.
+ghost use Rattle.std.specs.Prelude.{◌≡◌, ◌+◌, ◌<◌, OnOk};
+ghost use Rattle.lines.specs.Readers.{answer_as};
 ghost use Rattle.numerals.specs.Numerals.{cap};
-ghost use Rattle.text.specs.declared.header.HeaderAnswer.{HeaderAnswer};
-ghost use Rattle.text.specs.Header.{header_line, NumberFound, HeaderFound};
+ghost use Rattle.rules.specs.Questions.{HeaderRead, NumberRead, read_header, read_number};
+ghost use Rattle.rules.specs.Settings.{within};
 
-use lines::read_line;
-use rules::{Piece, Place, Refusal, Settings, in_limits};
+use lines::Reader;
+use rules::{Piece, Refusal, Refused, Settings, in_limits};
 
-// The number of a line and how many bytes the line has, or a refusal.
-#[derive(Clone, Copy)]
-pub enum NumberAnswer {
-    Number(u32, usize),
-    Refused(Refusal, Place),
-}
-
-// The text's first line, which is to have this key and one number in this range.
-fn read_number(text: &[u8], line: u32, key: &[u8], least: u32, greatest: u32) -> NumberAnswer
-    requires { greatest < cap }
-    ensures { NumberFound (record { key = key.entry.now; range = within least greatest }) line text.now result }
+// The next line, which is to have this key and one number in this range.
+fn read_number(reader: &mut Reader, key: &[u8], least: u32, greatest: u32) -> Result<u32, Refused>
+    requires small { greatest < cap }
+    requires room { reader.old.line < 4_294_967_295 }
+    ensures number { answer_as {B = NumberRead} (λ n. record { number = n; rest = reader.new.rest.now }) result ≡ read_number (record { key = key.now; range = within least greatest }) reader.old.line reader.old.rest.now }
+    ensures line { OnOk result (reader.new.line ≡ reader.old.line + 1) }
 {
-    let read = read_line(text, key, 1);
-    if !read.good {
-        return NumberAnswer::Refused(Refusal::Form, Place::Line(line));
-    }
-    let number = read.values[0];
+    let place = reader.place();
+    let [number] = reader.next_line::<1>(key)?;
     if !in_limits(least, greatest, number) {
-        return NumberAnswer::Refused(Refusal::Range, Place::Line(line));
+        return Err(Refusal::Range.at(place));
     }
-    NumberAnswer::Number(number, read.bytes)
+    Ok(number)
 }
 
-// Line i of the six, from 0.
-fn read_setting(text: &[u8], i: usize) -> NumberAnswer
-    requires { i < 6 }
-    ensures { NumberFound (header_line i) (i + 1) text.now result }
-{
-    let line = (i as u32) + 1;
-    match i {
-        0 => read_number(
-            text,
-            line,
-            b"masks=",
-            Settings::MASKS_LEAST,
-            Settings::MASKS_GREATEST,
-        ),
-        1 => read_number(
-            text,
-            line,
-            b"spacing=",
-            Settings::SPACING_LEAST,
-            Settings::SPACING_GREATEST,
-        ),
-        2 => read_number(
-            text,
-            line,
-            b"margin=",
-            Settings::MARGIN_LEAST,
-            Settings::MARGIN_GREATEST,
-        ),
-        3 => read_number(
-            text,
-            line,
-            b"weight=",
-            Settings::WEIGHT_LEAST,
-            Settings::WEIGHT_GREATEST,
-        ),
-        4 => read_number(
-            text,
-            line,
-            b"budget=",
-            Settings::BUDGET_LEAST,
-            Settings::BUDGET_GREATEST,
-        ),
-        _ => read_number(text, line, b"pieces=", 0, Piece::COUNT_GREATEST as u32),
-    }
-}
-
-// The settings, the number of pieces and how many bytes the six lines have, or a refusal.
+// The settings and the number of pieces.
 #[derive(Clone, Copy)]
-pub enum HeaderAnswer {
-    Read(Settings, usize, usize),
-    Refused(Refusal, Place),
+pub struct Header {
+    pub settings: Settings,
+    pub count: usize,
 }
 
-// The answer that the numbers of all six lines make.
-fn header_from(values: [u32; 6], bytes: usize) -> HeaderAnswer
-    ensures { result ≡ HeaderAnswer.Read (settings_from values) (get_or values 5 0) bytes }
+pub fn read_header(reader: &mut Reader) -> Result<Header, Refused>
+    requires { reader.old.line ≡ 1 }
+    ensures header { answer_as {B = HeaderRead} (λ h. record { settings = h.settings; count = h.count; rest = reader.new.rest.now }) result ≡ read_header reader.old.rest.now }
+    ensures line { OnOk result (reader.new.line ≡ 7) }
 {
+    let masks = read_number(reader, b"masks=", Settings::MASKS_LEAST, Settings::MASKS_GREATEST)?;
+    let spacing = read_number(reader, b"spacing=", Settings::SPACING_LEAST, Settings::SPACING_GREATEST)?;
+    let margin = read_number(reader, b"margin=", Settings::MARGIN_LEAST, Settings::MARGIN_GREATEST)?;
+    let weight = read_number(reader, b"weight=", Settings::WEIGHT_LEAST, Settings::WEIGHT_GREATEST)?;
+    let budget = read_number(reader, b"budget=", Settings::BUDGET_LEAST, Settings::BUDGET_GREATEST)?;
+    let count = read_number(reader, b"pieces=", 0, Piece::COUNT_GREATEST as u32)?;
     let settings = Settings {
-        masks: values[0],
-        spacing: values[1],
-        margin: values[2],
-        weight: values[3],
-        budget: values[4],
+        masks,
+        spacing,
+        margin,
+        weight,
+        budget,
     };
-    HeaderAnswer::Read(settings, values[5] as usize, bytes)
-}
-
-pub fn read_header(text: &[u8]) -> HeaderAnswer
-    ensures { HeaderFound text.now result }
-{
-    let mut values = [0u32; 6];
-    let mut at = 0;
-    let mut i = 0;
-    while i < 6 {
-        match read_setting(&text[at..], i) {
-            NumberAnswer::Number(number, bytes) => {
-                values[i] = number;
-                at += bytes;
-                i += 1;
-            }
-            NumberAnswer::Refused(refusal, place) => {
-                return HeaderAnswer::Refused(refusal, place);
-            }
-        }
-    }
-    header_from(values, at)
+    Ok(Header {
+        settings,
+        count: count as usize,
+    })
 }

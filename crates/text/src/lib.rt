@@ -3,8 +3,7 @@
 #![tactic(auto)]
 
 mod header;
-mod judging;
 mod read;
 
-pub use header::{HeaderAnswer, read_header};
-pub use read::{judge_read, read_layer, refuse};
+pub use header::{Header, read_header};
+pub use read::{Layer, hand_back, judge, read_layer};

@@ -1,24 +1,19 @@
 -- `read_number`: the form, then the range; the number up to the cap decides as the number itself. Assumes nothing.
-use borrow.Author.Tests.{not-true, not-false}
-use mathlib.Core.Path.{sym, ◌∙◌}
+use Rattle.std.proofs.Common.{sym, ◌∙◌}
+use Rattle.std.proofs.lemmas.Result.{err_from_is_err_and}
 use Rattle.text.proofs.HeaderLines.{number_form, number_out, number_in}
-use mathlib.Core.Path.{ap}
-use mathlib.Core.Bool.{not}
 use Rattle.text.proofs.header.read_number.Goals as goal
 
-pub returns-then-not-read : goal.returns-then-not-read
-returns-then-not-read c =
-    let line = c.read_line-read in
-    number_form _ _ c.args.least c.args.greatest _ c.requires line.result line.ensures (not-true line.result.good (ap not c.if-not-read.true))
+pub returns-in_err-number-clause-number : goal.returns-in_err-number-clause-number
+returns-in_err-number-clause-number c =
+    let p = err_from_is_err_and c.from_residual.result c.from_residual.ensures.1 in
+    rw (p.1, p.2) (number_form _ _ c.args.least c.args.greatest _ _ _ c.in_err-number.ensures.read)
 
-pub returns-then-not-in_limits : goal.returns-then-not-in_limits
-returns-then-not-in_limits c =
-    let line = c.read_line-read in
-    number_out _ _ c.args.least c.args.greatest _ c.requires line.result line.ensures (not-false line.result.good (ap not c.if-not-read.false))
-    (sym c.in_limits.ensures ∙ not-true c.in_limits.result (ap not c.if-not-in_limits.true))
+pub returns-then-not-in_limits-clause-number : goal.returns-then-not-in_limits-clause-number
+returns-then-not-in_limits-clause-number c =
+    rw (c.at.ensures, c.place-place.ensures)
+    (number_out _ _ c.args.least c.args.greatest _ c.requires.small _ _ c.in_ok-number.ensures.read (sym c.in_limits.ensures ∙ c.if-not-in_limits.true))
 
-pub returns : goal.returns
-returns c =
-    let line = c.read_line-read in
-    number_in _ _ c.args.least c.args.greatest _ c.requires line.result line.ensures (not-false line.result.good (ap not c.if-not-read.false))
-    (sym c.in_limits.ensures ∙ not-false c.in_limits.result (ap not c.if-not-in_limits.false))
+pub returns-clause-number : goal.returns-clause-number
+returns-clause-number c =
+    number_in _ _ c.args.least c.args.greatest _ c.requires.small _ _ c.in_ok-number.ensures.read (sym c.in_limits.ensures ∙ c.if-not-in_limits.false)
