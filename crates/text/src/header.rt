@@ -35,11 +35,36 @@ pub fn read_header(reader: &mut Reader) -> Result<Header, Refused>
     ensures header { answer_as {B = HeaderRead} (λ h. record { settings = h.settings; count = h.count; rest = reader.new.rest.now }) result ≡ read_header reader.old.rest.now }
     ensures line { OnOk result (reader.new.line ≡ 7) }
 {
-    let masks = read_number(reader, b"masks=", Settings::MASKS_LEAST, Settings::MASKS_GREATEST)?;
-    let spacing = read_number(reader, b"spacing=", Settings::SPACING_LEAST, Settings::SPACING_GREATEST)?;
-    let margin = read_number(reader, b"margin=", Settings::MARGIN_LEAST, Settings::MARGIN_GREATEST)?;
-    let weight = read_number(reader, b"weight=", Settings::WEIGHT_LEAST, Settings::WEIGHT_GREATEST)?;
-    let budget = read_number(reader, b"budget=", Settings::BUDGET_LEAST, Settings::BUDGET_GREATEST)?;
+    let masks = read_number(
+        reader,
+        b"masks=",
+        Settings::MASKS_LEAST,
+        Settings::MASKS_GREATEST,
+    )?;
+    let spacing = read_number(
+        reader,
+        b"spacing=",
+        Settings::SPACING_LEAST,
+        Settings::SPACING_GREATEST,
+    )?;
+    let margin = read_number(
+        reader,
+        b"margin=",
+        Settings::MARGIN_LEAST,
+        Settings::MARGIN_GREATEST,
+    )?;
+    let weight = read_number(
+        reader,
+        b"weight=",
+        Settings::WEIGHT_LEAST,
+        Settings::WEIGHT_GREATEST,
+    )?;
+    let budget = read_number(
+        reader,
+        b"budget=",
+        Settings::BUDGET_LEAST,
+        Settings::BUDGET_GREATEST,
+    )?;
     let count = read_number(reader, b"pieces=", 0, Piece::COUNT_GREATEST as u32)?;
     let settings = Settings {
         masks,

@@ -1,5 +1,5 @@
 -- `read_header`: each line follows the one before, with the key and the range that the rules state for it. Assumes nothing.
-use Rattle.std.proofs.Common.{◌≡◌, List, [], ◌∷◌, ℕ, drop, arith}
+use Rattle.std.proofs.Common.{◌≡◌, [], ◌∷◌, drop, arith}
 use Rattle.std.proofs.lemmas.Result.{err_from_is_err_and}
 use Rattle.rules.specs.Lines.{ascii}
 use Rattle.rules.specs.LayerText.{header_lines}
