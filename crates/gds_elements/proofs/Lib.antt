@@ -1,4 +1,3 @@
 -- Laws of elements.
 pub mod AlikeLaws
-pub mod ElementLaws
 pub mod CollectLaws

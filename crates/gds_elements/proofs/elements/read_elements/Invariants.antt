@@ -1,11 +1,10 @@
--- `read_elements`: one element after the other; the measure is what is left of the bytes. Assumes nothing.
-use Prim.Native.Nat.{◌-◌}
-use lib.ListN.{length}
+-- `read_elements`: the elements so far and those that are left are all of them; the measure is the bytes that are left. Assumes nothing.
+use Rattle.std.proofs.Common.{length}
 use Rattle.gds_elements.proofs.CollectLaws.{SoFar}
 use Rattle.gds_elements.proofs.elements.read_elements.Given as goal
 
-abbrev pub invariant-loop-piece : goal.invariant-loop-piece
-invariant-loop-piece l = SoFar l.bytes l.records l.at l.n
+abbrev pub invariant-loop-records : goal.invariant-loop-records
+invariant-loop-records l = SoFar l.initial.records.number l.initial.records.rest.now l.records.number l.records.rest.now l.elements.count l.elements.pieces
 
-abbrev pub decreases-loop-piece : goal.decreases-loop-piece
-decreases-loop-piece l = length l.bytes - l.at
+abbrev pub decreases-loop-records : goal.decreases-loop-records
+decreases-loop-records l = length l.records.rest.now
