@@ -1,3 +1,2 @@
 -- Laws of the settings text and of the stream as a whole.
-pub mod SettingsLaws
 pub mod ReadingLaws
