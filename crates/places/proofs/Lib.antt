@@ -1,5 +1,5 @@
 -- Laws of the pieces of units, of lists of neighbours, and of the order of places.
-pub mod Linking
+pub mod Members
 pub mod Seating
 pub mod Entries
 pub mod Neighbours
@@ -7,4 +7,3 @@ pub mod Counting
 pub mod Laying
 pub mod LocalCost
 pub mod Turns
-pub mod Ordering

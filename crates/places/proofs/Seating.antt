@@ -9,63 +9,52 @@ use lib.Dec.{eqb}
 use lib.ListN.{length, get_or, set, length-set}
 use lib.Seq.{get_or-set_same, get_or-set_other}
 use borrow.Author.Tests.{eqb-true, eqb-false, eq-eqb, ne_eqb}
-use Rattle.bitset.specs.Bits.{member, Empty}
+use Rattle.bitset.specs.Bits.{member, Empty, Taken}
 use Rattle.rules.specs.Basics.{any_of, occurs}
 use Rattle.rules.specs.Units.{merged_into}
 use Rattle.rules.proofs.Lists.{any_snoc, occurs_in, occurs_out}
 use Rattle.rules.proofs.Tests.{by_test, clash, both, same, lt_or_ge}
+use Rattle.adjacency.specs.Members.{members_of}
 use Rattle.adjacency.specs.UnitGraph.{unit_at}
 use Rattle.theory.proofs.Merging.{member_in, in_member}
-use Rattle.places.specs.Chains.{Chain, Seated}
-use Rattle.places.proofs.Linking.{Along, along_start, along_end, along_next}
+use Rattle.places.specs.Seats.{Seated}
+use Rattle.places.proofs.Members.{taken_members, none_left}
 
 -- ---- The pieces of one place, one after the other
 
 -- those passed are seated
-pub record Seating (next pieces : List ℕ) (k p : ℕ) (set₀ set₁ seats₀ seats₁ : List ℕ) : Type 0 where
+pub record Seating (pieces : List ℕ) (k : ℕ) (rest set₀ set₁ seats₀ seats₁ : List ℕ) : Type 0 where
   pub passed : List ℕ
-  pub left : List ℕ
-  pub all : passed ++ left ≡ pieces
-  pub along : Along next p left
+  pub all : passed ++ members_of rest ≡ members_of pieces
   pub seated : Seated passed k set₀ set₁ seats₀ seats₁
 
-pub seating_none : (next pieces : List ℕ) (k p : ℕ) (s seats : List ℕ) → length seats ≡ 512 → Chain next 0 p pieces → Seating next pieces k p s s seats seats
+pub seating_none : (pieces : List ℕ) (k : ℕ) (s seats : List ℕ) → length seats ≡ 512 → Seating pieces k pieces s s seats seats
 unfolding any_of
-seating_none next pieces k p s seats e c = record {
+seating_none pieces k s seats e = record {
   passed = [];
-  left = pieces;
   all = refl;
-  along = along_start next p pieces c;
   seated = record { put = λ q. sym (or-false (member s q)); seats = λ q. refl; whole = e };
 }
 
-module _ {next pieces : List ℕ} {k p : ℕ} {set₀ set₁ seats₀ seats₁ : List ℕ} (h : Seating next pieces k p set₀ set₁ seats₀ seats₁) where
-  pub seating_next : (set₂ : List ℕ) → p < 512 → ((q : ℕ) → member set₂ q ≡ (member set₁ q || eqb q p))
-      → Seating next pieces k (get_or next p 0) set₀ set₂ seats₀ (set seats₁ p k)
-  seating_next set₂ small put =
-      let on = along_next next p h.left small h.along in
-      record {
-        passed = h.passed ++ (p ∷ []);
-        left = on.rest;
-        all = append_assoc h.passed (p ∷ []) on.rest ∙ ap (λ (xs : List ℕ). h.passed ++ xs) (sym on.split) ∙ h.all;
-        along = on.along;
-        seated = record {
-          put = λ q. put q ∙ rw (h.seated.put q, any_snoc (eqb q) h.passed p) (or_assoc (member set₀ q) (occurs q h.passed) (eqb q p));
-          seats = λ q. rw (any_snoc (eqb q) h.passed p)
-              (by_test (eqb q p)
-              (λ e. rw (e, or-true (occurs q h.passed), eqb-true q p e) (get_or-set_same seats₁ p k 0 (omega (arith, h.seated.whole))))
-              (λ e. rw (e, or-false (occurs q h.passed)) (get_or-set_other seats₁ p q k 0 (eqb-false q p e) ∙ h.seated.seats q)));
-          whole = length-set seats₁ p k ∙ h.seated.whole;
-        };
-      }
+module _ {pieces : List ℕ} {k : ℕ} {rest set₀ set₁ seats₀ seats₁ : List ℕ} (h : Seating pieces k rest set₀ set₁ seats₀ seats₁) where
+  pub seating_next : {p : ℕ} {rest' : List ℕ} (set₂ : List ℕ) → Taken rest p rest' → ((q : ℕ) → member set₂ q ≡ (member set₁ q || eqb q p))
+      → Seating pieces k rest' set₀ set₂ seats₀ (set seats₁ p k)
+  seating_next {p} {rest'} set₂ taken put = record {
+    passed = h.passed ++ (p ∷ []);
+    all = append_assoc h.passed (p ∷ []) (members_of rest') ∙ ap (λ (xs : List ℕ). h.passed ++ xs) (sym (taken_members taken)) ∙ h.all;
+    seated = record {
+      put = λ q. put q ∙ rw (h.seated.put q, any_snoc (eqb q) h.passed p) (or_assoc (member set₀ q) (occurs q h.passed) (eqb q p));
+      seats = λ q. rw (any_snoc (eqb q) h.passed p)
+          (by_test (eqb q p)
+          (λ e. rw (e, or-true (occurs q h.passed), eqb-true q p e) (get_or-set_same seats₁ p k 0 (omega (arith, h.seated.whole, taken.small))))
+          (λ e. rw (e, or-false (occurs q h.passed)) (get_or-set_other seats₁ p q k 0 (eqb-false q p e) ∙ h.seated.seats q)));
+      whole = length-set seats₁ p k ∙ h.seated.whole;
+    };
+  }
 
-  -- where the chain goes on
-  pub seating_later : p < 512 → (p < get_or next p 0) × (get_or next p 0 ≤ 512)
-  seating_later small = let on = along_next next p h.left small h.along in (on.later, on.within)
-
-  pub seating_all : 512 ≤ p → Seated pieces k set₀ set₁ seats₀ seats₁
-  seating_all l =
-      let whole : h.passed ≡ pieces = sym (append-nil h.passed) ∙ ap (λ (xs : List ℕ). h.passed ++ xs) (sym (along_end next p h.left l h.along)) ∙ h.all in
+  pub seating_all : ((q : ℕ) → q < 512 → member rest q ≡ false) → Seated (members_of pieces) k set₀ set₁ seats₀ seats₁
+  seating_all none =
+      let whole : h.passed ≡ members_of pieces = sym (append-nil h.passed) ∙ ap (λ (xs : List ℕ). h.passed ++ xs) (sym (none_left rest none)) ∙ h.all in
       subst (λ (xs : List ℕ). Seated xs k set₀ set₁ seats₀ seats₁) whole h.seated
 
 -- ---- The pieces of all places below k

@@ -13,7 +13,7 @@ use Rattle.adjacency.specs.Members.{members_of}
 use Rattle.adjacency.specs.UnitGraph.{unit_at, unit_graph}
 use Rattle.adjacency.proofs.MemberLaws.{members_none, members_few}
 use Rattle.adjacency.specs.Adjacency.{BothWays}
-use Rattle.places.specs.Chains.{Seated}
+use Rattle.places.specs.Seats.{Seated}
 use Rattle.places.specs.Storing.{Stored, place_entries}
 use Rattle.places.specs.LaidOut.{Exclusive, LaidOut}
 use Rattle.places.proofs.Entries.{stored_room}

@@ -1,5 +1,4 @@
 pub mod Local
-pub mod Chains
+pub mod Seats
 pub mod Storing
 pub mod LaidOut
-pub mod Order

@@ -9,6 +9,6 @@ pub fn local_fixed(order: &[u16], fixed: &[u8; 512], local: &mut [u8])
     ensures { take (length order.now) local.new ≡ map (fixed_at fixed.now) order.now }
 {
     for (i, vertex) in order.iter().enumerate() {
-        local[i] = fixed[*vertex as usize];
+        local[i] = fixed[usize::from(*vertex)];
     }
 }

@@ -3,10 +3,10 @@
 // units nor words; what it finds is put down at the units.
 #![tactic(auto)]
 
-mod chains;
 mod fixed;
 mod lists;
 mod order;
+mod pieces;
 
 pub use fixed::local_fixed;
 pub use lists::Lists;

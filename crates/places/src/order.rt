@@ -1,27 +1,22 @@
 // From vertices to places and back.
-ghost use Rattle.std.specs.Prelude.{◌≡◌, ℕ, ◌<◌, length, get_or};
+ghost use Rattle.std.specs.Prelude.{◌≡◌, ℕ, ◌≤◌, ◌<◌, length, get_or};
 ghost use Rattle.rules.specs.Decomposition.{put_masks};
-ghost use Rattle.places.specs.Order.{Ordered};
+ghost use Rattle.adjacency.specs.Members.{members_of};
 
-use crate::chains::note;
+use arrayvec::ArrayVec;
+use bitset::BitSet;
 
-// Stores the members of a set in rising order, and answers how many there are.
-pub fn list_members(members: &[u64; 8], order: &mut [u16; 512]) -> usize
-    requires { length order.old ≡ 512 }
-    ensures { Ordered members.now order.old order.new result }
+// The members of a set in rising order. The list has room for all and no memory of its own.
+pub fn list_members(members: &BitSet) -> ArrayVec<u16, 512>
+    ensures order { result.items ≡ members_of members.now }
+    ensures few { length result.items ≤ 512 }
+    ensures vertices { (i : ℕ) → i < length result.items → get_or result.items i 0 < 512 }
 {
-    let mut rest = *members;
-    let mut count = 0;
-    loop {
-        let v = bitset::lowest(&rest);
-        if v == 512 {
-            break;
-        }
-        note(order, count, v as u16);
-        bitset::take_out(&mut rest, v);
-        count += 1;
+    let mut order = ArrayVec::new();
+    for v in members.members() {
+        order.push(v as u16);
     }
-    count
+    order
 }
 
 // Puts the masks of the places down at their vertices.
@@ -30,6 +25,6 @@ pub fn put_masks(order: &[u16], masks: &[u8], res: &mut [u8])
     ensures { res.new ≡ put_masks order.now masks.now res.old }
 {
     for (vertex, mask) in order.iter().zip(masks) {
-        res[*vertex as usize] = *mask;
+        res[usize::from(*vertex)] = *mask;
     }
 }

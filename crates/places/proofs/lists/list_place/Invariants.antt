@@ -1,12 +1,8 @@
--- `list_place`: the neighbours of the pieces passed are entered. Assumes nothing.
-use mathlib.Core.List.{List}
-use Prim.Native.Nat.{ℕ, ◌-◌}
-use Rattle.places.specs.Chains.{Chain}
-use Rattle.places.proofs.Neighbours.{Passing}
+-- `list_place`: the neighbours of the pieces that are left are still to be entered. Assumes nothing.
+use Rattle.adjacency.specs.Members.{members_of}
+use Rattle.places.specs.Storing.{Stored, place_entries}
 use Rattle.places.proofs.lists.list_place.Given as goal
 
 abbrev pub invariant-loop-p : goal.invariant-loop-p
-invariant-loop-p l = (pieces : List ℕ) → Chain l.next 0 l.piece pieces → Passing l.words l.seats l.earlier l.next pieces l.p l.from l.initial.list l.list l.end
-
-abbrev pub decreases-loop-p : goal.decreases-loop-p
-decreases-loop-p l = 512 - l.p
+invariant-loop-p l =
+    Stored (place_entries l.words l.seats l.earlier (members_of l.pieces)) (place_entries l.words l.seats l.earlier (members_of l.p-iterator)) l.from l.initial.list l.list l.end

@@ -1,42 +1,51 @@
 use native.Mathlib.Omega.{arith}
-use mathlib.Core.List.{List}
-use mathlib.Core.Path.{subst, subst⁻¹}
-use Prim.Native.Nat.{ℕ, ◌+◌, ◌<◌}
-use Rattle.bitset.specs.Bits.{First}
-use Rattle.places.proofs.Ordering.{Ordering, ordering_none, ordering_room, ordering_next, ordering_all}
+use mathlib.Core.List.{List, [], ◌∷◌, ◌++◌, append-nil, append_assoc}
+use mathlib.Core.Path.{◌≡◌, sym, ap, ◌∙◌}
+use Prim.Native.Nat.{ℕ, ◌≤◌, ◌<◌}
+use lib.ListN.{length, get_or, length-append}
+use Rattle.rules.proofs.Lists.{place_in}
+use Rattle.adjacency.specs.Members.{members_of}
+use Rattle.adjacency.proofs.MemberLaws.{in_members, members_few}
+use Rattle.places.proofs.Members.{taken_members, none_left}
 use Rattle.places.proofs.order.list_members.Goals as goal
-use Rattle.places.proofs.order.list_members.Goals.{Else-v-eq512}
+use Rattle.places.proofs.order.list_members.Goals.{In-None}
 
--- a member was found, and there is a place for it
-module _ (c : Else-v-eq512) where
-  small : c.lowest-v.result < 512
-  small = omega (arith, c.lowest-v.ensures.within, c.if-v-eq512.false)
+-- none is left
+listed : (c : In-None) → c.loop-v.order.items ≡ members_of c.args.members.now
+listed c =
+    sym (append-nil c.loop-v.order.items)
+    ∙ ap (λ (xs : List ℕ). c.loop-v.order.items ++ xs) (sym (none_left c.loop-v.v-iterator c.in-None.ensures.steps.0))
+    ∙ c.loop-v.invariant
 
-  room : c.loop-rest.count < 512
-  room = ordering_room c.loop-rest.invariant c.lowest-v.result small c.lowest-v.ensures
+pub loop-v-init : goal.loop-v-init
+loop-v-init c = rw (c.into_iter-v-iterator.ensures.into_iter_gives, c.members-v-items.ensures, c.new-order.ensures)
 
-pub loop-rest-init : goal.loop-rest-init
-loop-rest-init c = ordering_none c.args.members.now c.args.order.now c.requires
+pub push-requires : goal.push-requires
+push-requires c = (
+  omega arith,
+  omega (
+    arith,
+    ap length c.loop-v.invariant,
+    length-append c.loop-v.order.items (members_of c.loop-v.v-iterator),
+    ap length (taken_members c.in-Some.ensures.steps),
+    members_few c.args.members.now,
+  ),
+)
 
-pub overflow_cast-v : goal.overflow_cast-v
-overflow_cast-v c = omega (arith, small (goal.at.overflow_cast-v c).Else-v-eq512)
+pub loop-v-preserved : goal.loop-v-preserved
+loop-v-preserved c =
+    ap (λ (xs : List ℕ). xs ++ members_of c.next.new.self) c.push.ensures.items
+    ∙ append_assoc c.loop-v.order.items (c.in-Some.v ∷ []) (members_of c.next.new.self)
+    ∙ ap (λ (xs : List ℕ). c.loop-v.order.items ++ xs) (sym (taken_members c.in-Some.ensures.steps))
+    ∙ c.loop-v.invariant
 
-pub note-requires : goal.note-requires
-note-requires c = room (goal.at.note-requires c).Else-v-eq512
+pub returns-clause-order : goal.returns-clause-order
+returns-clause-order c = listed (goal.at.returns-clause-order c).In-None
 
-pub take_out-requires : goal.take_out-requires
-take_out-requires c = small (goal.at.take_out-requires c).Else-v-eq512
+pub returns-clause-few : goal.returns-clause-few
+returns-clause-few c = omega (arith, ap length (listed (goal.at.returns-clause-few c).In-None), members_few c.args.members.now)
 
-pub overflow_add-count : goal.overflow_add-count
-overflow_add-count c = omega (arith, room (goal.at.overflow_add-count c).Else-v-eq512)
-
-pub loop-rest-smaller : goal.loop-rest-smaller
-loop-rest-smaller c = omega (arith, room (goal.at.loop-rest-smaller c).Else-v-eq512)
-
-pub loop-rest-preserved : goal.loop-rest-preserved
-loop-rest-preserved c =
-    let next = ordering_next c.loop-rest.invariant c.lowest-v.result (small (goal.at.loop-rest-preserved c).Else-v-eq512) c.lowest-v.ensures c.take_out.ensures in
-    subst⁻¹ (λ (l : List ℕ). Ordering c.args.members.now c.args.order.now l c.take_out.new.s (c.loop-rest.count + 1)) c.note.ensures next
-
-pub returns : goal.returns
-returns c = ordering_all c.loop-rest.invariant (subst (First _) c.if-v-eq512.true c.lowest-v.ensures)
+pub returns-clause-vertices : goal.returns-clause-vertices
+returns-clause-vertices c i l =
+    let all = listed (goal.at.returns-clause-vertices c).In-None in
+    rw all ((in_members c.args.members.now (get_or (members_of c.args.members.now) i 0)).0 (place_in (members_of c.args.members.now) i (omega (arith, ap length all)))).0

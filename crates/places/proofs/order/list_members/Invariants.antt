@@ -1,10 +1,8 @@
--- `list_members`: the least of those left is stored next. Assumes nothing.
-use Prim.Native.Nat.{◌-◌}
-use Rattle.places.proofs.Ordering.{Ordering}
+-- `list_members`: the members that are left come after those that are listed. Assumes nothing.
+use mathlib.Core.List.{◌++◌}
+use mathlib.Core.Path.{◌≡◌}
+use Rattle.adjacency.specs.Members.{members_of}
 use Rattle.places.proofs.order.list_members.Given as goal
 
-abbrev pub invariant-loop-rest : goal.invariant-loop-rest
-invariant-loop-rest l = Ordering l.members l.initial.order l.order l.rest l.count
-
-abbrev pub decreases-loop-rest : goal.decreases-loop-rest
-decreases-loop-rest l = 512 - l.count
+abbrev pub invariant-loop-v : goal.invariant-loop-v
+invariant-loop-v l = l.order.items ++ members_of l.v-iterator ≡ members_of l.members

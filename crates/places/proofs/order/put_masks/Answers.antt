@@ -17,7 +17,7 @@ put_end (v ∷ order) (m ∷ ms) masks (inr e) = absurd (omega arith)
 
 pub loop-vertex-preserved : goal.loop-vertex-preserved
 unfolding put_masks
-loop-vertex-preserved c = let left = c.in-Some.ensures.steps in rw (left.0, left.1) at c.loop-vertex.invariant
+loop-vertex-preserved c = let left = c.in-Some.ensures.steps in rw c.from.ensures (rw (left.0, left.1) at c.loop-vertex.invariant)
 
 pub returns : goal.returns
 returns c = sym (put_end _ _ c.loop-vertex.res (elim c.in-None.ensures.steps [ inl e ↦ inl e.1.0 | inr e ↦ inr e.1.0 ])) ∙ c.loop-vertex.invariant

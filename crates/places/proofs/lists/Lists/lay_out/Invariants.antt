@@ -3,4 +3,4 @@ use Rattle.places.proofs.Turns.{Turn}
 use Rattle.places.proofs.lists.Lists.lay_out.Given as goal
 
 abbrev pub invariant-loop-k : goal.invariant-loop-k
-invariant-loop-k l = Turn l.conflicts l.stitches l.units l.n l.order l.self.starts l.self.entries l.end l.k l.earlier l.seats
+invariant-loop-k l = Turn l.edges.conflicts l.edges.stitches l.units l.n l.order l.self.starts l.self.entries l.end l.k l.earlier l.seats

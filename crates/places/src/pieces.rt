@@ -1,0 +1,32 @@
+// The pieces of each unit, as sets: they are found in one pass over the pieces, so that no unit's pieces are looked for.
+ghost use Rattle.std.specs.Prelude.{[], ◌≡◌, ◌&&◌, ℕ, ◌≤◌, ◌<◌, eqb, ltb, get_or};
+ghost use Rattle.bitset.specs.Bits.{member};
+ghost use Rattle.adjacency.specs.UnitGraph.{unit_at};
+ghost use Rattle.adjacency.specs.Members.{members_of};
+ghost use Rattle.places.specs.Seats.{Seated};
+
+use bitset::BitSet;
+
+// The pieces below n of each unit.
+pub fn pieces_of_units(units: &[u16; 512], n: usize) -> [BitSet; 512]
+    requires n_bound { n ≤ 512 }
+    requires by_index { (i : ℕ) → i < n → unit_at units.now i < 512 }
+    ensures { (u q : ℕ) → u < 512 → member (get_or result u []) q ≡ (ltb q n && eqb (unit_at units.now q) u) }
+{
+    let mut pieces = [BitSet::empty(); 512];
+    for (q, unit) in units[..n].iter().enumerate() {
+        pieces[usize::from(*unit)].put(q);
+    }
+    pieces
+}
+
+// Puts the pieces of a unit into the set, and notes that their place is k.
+pub fn seat_pieces(pieces: &BitSet, k: usize, there: &mut BitSet, seats: &mut [u16; 512])
+    requires { k < 512 }
+    ensures { Seated (members_of pieces.now) k there.old there.new seats.old seats.new }
+{
+    for p in pieces.members() {
+        there.put(p);
+        seats[p] = k as u16;
+    }
+}
