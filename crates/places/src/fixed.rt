@@ -1,14 +1,18 @@
 // The fixed masks of places.
-ghost use Rattle.std.specs.Prelude.{map, ◌≡◌, ℕ, ◌≤◌, ◌<◌, length, get_or, take};
+ghost use Rattle.std.specs.Prelude.{map, ◌≡◌, ℕ, ◌≤◌, ◌<◌, length, get_or};
 ghost use Rattle.adjacency.specs.UnitGraph.{fixed_at};
 
-// Stores the fixed masks of the places, from those of their vertices. What `local` has past them says nothing.
-pub fn local_fixed(order: &[u16], fixed: &[u8; 512], local: &mut [u8])
-    requires room { length order.now ≤ length local.old }
+use arrayvec::ArrayVec;
+
+// The fixed masks of the places, from those of their vertices.
+pub fn local_fixed(order: &[u16], fixed: &[u8; 512]) -> ArrayVec<u8, 512>
+    requires few { length order.now ≤ 512 }
     requires by_index { (i : ℕ) → i < length order.now → get_or order.now i 0 < 512 }
-    ensures { take (length order.now) local.new ≡ map (fixed_at fixed.now) order.now }
+    ensures { result.items ≡ map (fixed_at fixed.now) order.now }
 {
-    for (i, vertex) in order.iter().enumerate() {
-        local[i] = fixed[usize::from(*vertex)];
+    let mut local = ArrayVec::new();
+    for vertex in order {
+        local.push(fixed[usize::from(*vertex)]);
     }
+    local
 }
