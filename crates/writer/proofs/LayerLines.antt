@@ -1,37 +1,24 @@
--- Piece lines and lines that fix masks, written one after the other, and the room that they take. Assumes nothing.
+-- Piece lines, laid one after the other; lines that fix masks: none before the first piece, room for the next, and one more. Assumes nothing.
 use mathlib.Core.List.{List, [], ◌∷◌, ◌++◌, append_assoc, append-nil}
 use mathlib.Core.Path.{◌≡◌, refl, sym, ap, ◌∙◌}
-use Prim.Native.Nat.{ℕ, zero, suc, ◌+◌, ◌≤◌, ◌<◌}
+use Prim.Native.Nat.{ℕ, suc, ◌+◌, ◌≤◌, ◌<◌}
 use native.Mathlib.Omega.{arith}
 use native.Mathlib.Numerals.{add-one}
-use lib.ListN.{length, get_or, take, drop, length-append, take-append-drop}
+use lib.ListN.{length, take, drop, length-append, take-append-drop}
 use lib.Seq.{take-suc, length-take-le}
-use borrow.Author.Tests.{le-leb, lt-leb}
-use Rattle.rules.specs.declared.layer.Settings.{Settings}
 use Rattle.rules.specs.declared.layer.Piece.{Piece}
-use Rattle.rules.specs.declared.refusal.Place.{Place}
-use Rattle.rules.specs.Calls.{write_layer}
-use Rattle.rules.specs.LayerText.{piece_line, piece_lines, fixed_line, fixed_lines, layer_text}
-use Rattle.rules.specs.Questions.{done, refused, judge_layer, Valid}
+use Rattle.rules.specs.LayerText.{piece_line, piece_lines, fixed_line, fixed_lines}
 use Rattle.rules.specs.Settings.{no_piece, piece_at}
 use Rattle.line_writer.specs.declared.Writer.{Writer}
 use Rattle.line_writer.specs.Writing.{HasRoom, Wrote, laid}
 use Rattle.line_writer.proofs.Puts.{wrote_none, wrote_on, wrote_as, room_within}
-use Rattle.line_writer.proofs.Laid.{laid_next, laid_room}
 
 -- ---- Pieces
 
-piece_laid : (ps : List Piece) → piece_lines ps ≡ laid piece_line ps
+pub piece_laid : (ps : List Piece) → piece_lines ps ≡ laid piece_line ps
 unfolding piece_lines laid
 piece_laid [] = refl
 piece_laid (p ∷ ps) = ap (λ (l : List ℕ). piece_line p ++ l) (piece_laid ps)
-
-module _ (ps : List Piece) (k : ℕ) (h : k < length ps) where
-  pub pieces_next : piece_lines (take (k + 1) ps) ≡ piece_lines (take k ps) ++ piece_line (piece_at ps k)
-  pieces_next = piece_laid (take (k + 1) ps) ∙ laid_next piece_line no_piece ps k h ∙ ap (λ (l : List ℕ). l ++ piece_line (piece_at ps k)) (sym (piece_laid (take k ps)))
-
-  pub pieces_room : length (piece_lines (take k ps) ++ piece_line (piece_at ps k)) ≤ length (piece_lines ps)
-  pieces_room = rw (piece_laid (take k ps), piece_laid ps) (laid_room piece_line no_piece ps k h)
 
 -- ---- Lines that fix masks
 
@@ -60,7 +47,6 @@ fixed_part ps k =
       length-append (fixed_lines 0 (take k ps)) (fixed_lines (0 + length (take k ps)) (drop k ps)),
     )
 
--- none before the first, room for the next, and one more
 pub fixed_begun : (w : Writer) → Wrote w (fixed_lines 0 []) w
 unfolding fixed_lines
 fixed_begun w = wrote_none w

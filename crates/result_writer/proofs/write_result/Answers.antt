@@ -1,18 +1,17 @@
 -- `write_result`: the verdict, the four counts, the masks. Assumes nothing.
-use native.Mathlib.Omega.{arith}
 use mathlib.Core.List.{List, ◌++◌}
-use mathlib.Core.Path.{◌≡◌, sym, ap, ◌∙◌}
+use mathlib.Core.Path.{sym, ap, ◌∙◌}
 use Prim.Native.Nat.{ℕ}
 use Rattle.std.proofs.Common.{rules}
-use lib.ListN.{length, get_or, drop}
 use lib.Seq.{take_all}
 use Rattle.rules.specs.Answers.{run_of}
 use Rattle.rules.specs.Decomposition.{Run}
 use Rattle.rules.specs.Lines.{ascii, number_lines}
 use Rattle.rules.specs.ResultText.{verdict_line, result_keys, result_numbers, mask_line, mask_lines, result_text}
 use Rattle.line_writer.specs.Writing.{HasRoom, Wrote, laid}
-use Rattle.line_writer.proofs.Puts.{wrote_none, wrote_on, wrote_as, room_front, room_left, room_within, front_room, front_wrote}
-use Rattle.result_writer.proofs.ResultLines.{masks_next, masks_room}
+use Rattle.line_writer.proofs.Puts.{wrote_on, wrote_as, room_front, room_left, front_room, front_wrote}
+use Rattle.line_writer.proofs.Laid.{laid_none, laid_room, laid_more}
+use Rattle.result_writer.proofs.ResultLines.{mask_laid}
 use Rattle.result_writer.proofs.write_result.Goals as goal
 use Rattle.result_writer.proofs.write_result.Goals.{After-new-out, After-bytes, After-number_lines, After-len}
 
@@ -42,20 +41,18 @@ unfolding result_text laid ascii number_lines
 number_lines-requires c = room_left _ (verdict (goal.at.number_lines-requires c).After-bytes) (room_front c.new-out.result _ (mask_lines c.args.masks.now) (room (goal.at.number_lines-requires c).After-new-out))
 
 pub loop-mask-init : goal.loop-mask-init
-unfolding mask_lines
-loop-mask-init c = wrote_none _
+loop-mask-init c = laid_none mask_line mask_lines mask_laid _
 
 pub number_line-requires : goal.number_line-requires
 unfolding result_text ascii
 number_line-requires c =
     let left = room_left (mask_lines c.args.masks.now) (four (goal.at.number_line-requires c).After-number_lines) (room (goal.at.number_line-requires c).After-new-out) in
-    rw c.from.ensures (room_within (mask_line (get_or c.args.masks.now c.loop-mask.mask-index 0)) _ c.loop-mask.invariant left (masks_room c.args.masks.now c.loop-mask.mask-index c.loop-mask-test.true))
+    rw c.from.ensures (laid_room mask_line mask_lines mask_laid c.args.masks.now c.loop-mask.mask-index 0 c.loop-mask-test.true c.loop-mask.invariant left)
 
 pub loop-mask-preserved : goal.loop-mask-preserved
 unfolding ascii
 loop-mask-preserved c =
-    wrote_as (sym (masks_next c.args.masks.now c.loop-mask.mask-index c.loop-mask-test.true))
-    (wrote_on c.loop-mask.invariant (rw c.from.ensures at c.number_line.ensures))
+    laid_more mask_line mask_lines mask_laid c.args.masks.now c.loop-mask.mask-index 0 c.loop-mask-test.true c.loop-mask.invariant (rw c.from.ensures at c.number_line.ensures)
 
 -- the whole text
 whole : (c : After-len) → Wrote c.new-out.result (result_text (run_of c.args.res c.args.masks.now)) c.loop-mask.out

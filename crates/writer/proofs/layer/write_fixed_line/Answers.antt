@@ -1,7 +1,6 @@
 -- `write_fixed_line`: nothing, or the line. Assumes nothing.
-use mathlib.Core.Path.{sym}
 use Rattle.rules.specs.Lines.{ascii}
-use Rattle.line_writer.proofs.Puts.{wrote_none, wrote_as}
+use Rattle.line_writer.proofs.Puts.{wrote_none}
 use Rattle.text_theory.proofs.FixedLines.{no_line, a_line}
 use Rattle.writer.proofs.layer.write_fixed_line.Goals as goal
 

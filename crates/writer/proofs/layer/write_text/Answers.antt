@@ -1,12 +1,10 @@
 -- `write_text`: the six lines, the pieces, then the lines that fix masks. Assumes nothing.
 use native.Mathlib.Omega.{arith}
-use mathlib.Core.List.{◌++◌}
-use mathlib.Core.Path.{◌≡◌, sym, ◌∙◌}
+use mathlib.Core.Path.{sym, ◌∙◌}
 use Prim.Native.Nat.{◌≤◌}
 use lib.ListN.{length}
 use Rattle.std.proofs.Common.{rules}
-use Rattle.rules.specs.Lines.{number_lines}
-use Rattle.rules.specs.LayerText.{header_keys, header_numbers, piece_lines, fixed_lines, layer_text}
+use Rattle.rules.specs.LayerText.{layer_text}
 use Rattle.rules.proofs.Ranges.{within_facts}
 use Rattle.rules.proofs.Validity.{valid_sound}
 use Rattle.line_writer.specs.Writing.{HasRoom, Wrote}
