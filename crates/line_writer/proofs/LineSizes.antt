@@ -20,9 +20,10 @@ unfolding comma_list
 comma_length n m ns = length-append (decimal n) (comma ∷ comma_list (m ∷ ns)) ∙ omega arith
 
 -- the first number alone
-pub comma_first : (ns : List ℕ) → 1 ≤ length ns → comma_list (take 1 ns) ≡ decimal (get_or ns 0 0)
-comma_first [] h = absurd (omega arith)
-comma_first (n ∷ ns) h = comma_one n
+pub comma_first : (ns : List ℕ) (k : ℕ) → k ≡ 0 → k < length ns → comma_list (take (k + 1) ns) ≡ comma_list (take k ns) ++ decimal (get_or ns k 0)
+unfolding comma_list
+comma_first [] k none h = absurd (omega arith)
+comma_first (n ∷ ns) k none h = rw none refl
 
 -- one number more
 comma_snoc : (ns : List ℕ) (m : ℕ) → 1 ≤ length ns → comma_list (ns ++ (m ∷ [])) ≡ comma_list ns ++ (comma ∷ decimal m)
@@ -38,7 +39,7 @@ comma_next ns k some h =
     let size = length-take-le k ns (omega arith) in
     rw (add-one, take-suc ns k 0 h) (comma_snoc (take k ns) (get_or ns k 0) (omega arith))
 
--- there is room for the first numbers, and for one more
+-- the first numbers are no longer than all
 pub comma_part : (k : ℕ) (ns : List ℕ) → length (comma_list (take k ns)) ≤ length (comma_list ns)
 unfolding comma_list
 comma_part zero ns = omega arith
@@ -46,9 +47,6 @@ comma_part (suc k) [] = omega arith
 comma_part (suc k) (n ∷ []) = rw (take-nil k) (omega arith)
 comma_part (suc zero) (n ∷ m ∷ ns) = omega (arith, comma_length n m ns)
 comma_part (suc (suc k)) (n ∷ m ∷ ns) = omega (arith, comma_length n m (take k ns), comma_length n m ns, comma_part (suc k) (m ∷ ns))
-
-pub comma_room : (ns : List ℕ) (k : ℕ) → 1 ≤ k → k < length ns → length (comma_list (take k ns) ++ (comma ∷ decimal (get_or ns k 0))) ≤ length (comma_list ns)
-comma_room ns k some h = rw (sym (comma_next ns k some h)) (comma_part (k + 1) ns)
 
 -- ---- Lines
 

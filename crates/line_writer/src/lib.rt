@@ -61,21 +61,20 @@ impl<'a> Writer<'a> {
 
     // Numbers with a comma between two.
     fn numbers(&mut self, numbers: &[u32])
-        requires some { 1 ≤ length numbers.now }
-        requires room { HasRoom self.old (comma_list numbers.now) }
+        requires { HasRoom self.old (comma_list numbers.now) }
         ensures { Wrote self.old (comma_list numbers.now) self.new }
     {
-        self.number(numbers[0]);
-        for n in &numbers[1..] {
-            self.byte(b',');
+        for (k, n) in numbers.iter().enumerate() {
+            if k > 0 {
+                self.byte(b',');
+            }
             self.number(*n);
         }
     }
 
     // A line: a key, numbers with a comma between two, byte 10.
     pub fn line(&mut self, key: &[u8], numbers: &[u32])
-        requires some { 1 ≤ length numbers.now }
-        requires room { HasRoom self.old (line key.now numbers.now) }
+        requires { HasRoom self.old (line key.now numbers.now) }
         ensures { Wrote self.old (line key.now numbers.now) self.new }
     {
         self.bytes(key);

@@ -5,15 +5,15 @@ use Rattle.line_writer.proofs.Writer.line.Goals as goal
 
 pub bytes-requires : goal.bytes-requires
 unfolding line
-bytes-requires c = room_front c.args.self.now _ _ (room_front c.args.self.now _ _ c.requires.room)
+bytes-requires c = room_front c.args.self.now _ _ (room_front c.args.self.now _ _ c.requires)
 
-pub numbers-requires-clause-room : goal.numbers-requires-clause-room
+pub numbers-requires : goal.numbers-requires
 unfolding line
-numbers-requires-clause-room c = room_left _ c.bytes.ensures (room_front c.args.self.now _ _ c.requires.room)
+numbers-requires c = room_left _ c.bytes.ensures (room_front c.args.self.now _ _ c.requires)
 
 pub byte-requires : goal.byte-requires
 unfolding line
-byte-requires c = room_left _ (wrote_on c.bytes.ensures c.numbers.ensures) c.requires.room
+byte-requires c = room_left _ (wrote_on c.bytes.ensures c.numbers.ensures) c.requires
 
 pub returns : goal.returns
 unfolding line

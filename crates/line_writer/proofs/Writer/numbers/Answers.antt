@@ -1,53 +1,47 @@
 use native.Mathlib.Omega.{arith}
-use mathlib.Core.List.{List, [], ◌∷◌}
-use mathlib.Core.Path.{◌≡◌, sym, ap, ◌∙◌}
-use Prim.Native.Nat.{ℕ, ◌+◌, ◌-◌, ◌<◌}
-use lib.ListN.{length, get_or, take, drop}
-use lib.Seq.{take_all}
-use Rattle.std.proofs.lemmas.List.Edits.{length-between, get_or-between}
+use mathlib.Core.List.{[], ◌∷◌}
+use mathlib.Core.Path.{◌≡◌, sym}
+use Prim.Native.Nat.{◌+◌, ◌<◌}
+use lib.ListN.{get_or}
 use Rattle.rules.specs.Lines.{comma, decimal, comma_list}
 use Rattle.line_writer.specs.Writing.{HasRoom}
-use Rattle.line_writer.proofs.LineSizes.{comma_first, comma_next, comma_part, comma_room}
-use Rattle.line_writer.proofs.Puts.{wrote_on, wrote_as, room_front, room_left, room_within}
+use Rattle.line_writer.proofs.LineSizes.{comma_first, comma_next, comma_part}
+use Rattle.line_writer.proofs.Puts.{wrote_none, wrote_on, room_front, room_left, room_within}
 use Rattle.line_writer.proofs.Writer.numbers.Goals as goal
-use Rattle.line_writer.proofs.Writer.numbers.Goals.{In-loop-n}
+use Rattle.line_writer.proofs.Writer.numbers.Goals.{In-loop-k, then-k-gt0, else-k-gt0}
 
--- the numbers after the first, as `numbers[1..]` has them
-size : (ns : List ℕ) → length (take (length ns - 1) (drop 1 ns)) ≡ length ns - 1
-size ns = length-between ns 1 (length ns) (omega arith)
+-- there is room for the first number, and for a comma and a later one
+first : (c : In-loop-k) → c.loop-k.k ≡ 0 → HasRoom c.loop-k.self (decimal (get_or c.args.numbers.now c.loop-k.k 0))
+first c none =
+    let numbers = c.args.numbers.now in
+    room_within _ (comma_list numbers) c.loop-k.invariant c.requires (rw (sym (comma_first numbers c.loop-k.k none c.loop-k-test.true)) (comma_part (c.loop-k.k + 1) numbers))
 
-later : (ns : List ℕ) (i : ℕ) → i + 1 < length ns → get_or (take (length ns - 1) (drop 1 ns)) i 0 ≡ get_or ns (i + 1) 0
-later ns i h = get_or-between ns 1 (length ns) i 0 (omega arith) ∙ ap (λ (k : ℕ). get_or ns k 0) (omega arith)
+later : (c : In-loop-k) → 0 < c.loop-k.k → HasRoom c.loop-k.self (comma ∷ decimal (get_or c.args.numbers.now c.loop-k.k 0))
+later c some =
+    let numbers = c.args.numbers.now in
+    room_within (comma ∷ decimal (get_or numbers c.loop-k.k 0)) (comma_list numbers) c.loop-k.invariant c.requires
+    (rw (sym (comma_next numbers c.loop-k.k some c.loop-k-test.true)) (comma_part (c.loop-k.k + 1) numbers))
 
-inside : (c : In-loop-n) → c.loop-n.n-index + 1 < length c.args.numbers.now
-inside c = omega (arith, size c.args.numbers.now)
+pub loop-k-init : goal.loop-k-init
+unfolding comma_list
+loop-k-init c = wrote_none _
 
-room : (c : In-loop-n) → HasRoom c.loop-n.self (comma ∷ decimal (get_or c.args.numbers.now (c.loop-n.n-index + 1) 0))
-room c = room_within _ _ c.loop-n.invariant c.requires.room (comma_room c.args.numbers.now (c.loop-n.n-index + 1) (omega arith) (inside c))
+pub byte-requires : goal.byte-requires
+byte-requires c = room_front c.loop-k.self (comma ∷ []) _ (later (goal.at.byte-requires c).In-loop-k c.if-k-gt0.true)
 
 pub number-requires : goal.number-requires
 number-requires c =
+    elim c.if-k-gt0.branch [
+      | then-k-gt0 w ↦ rw w.self-is (room_left _ w.byte.ensures (later (goal.at.number-requires c).In-loop-k w.if-k-gt0.true))
+      | else-k-gt0 w ↦ rw w.self-is (first (goal.at.number-requires c).In-loop-k (omega arith))
+    ]
+
+pub loop-k-preserved : goal.loop-k-preserved
+loop-k-preserved c =
     let numbers = c.args.numbers.now in
-    omega (arith, ap length (comma_first numbers c.requires.some), comma_part 1 numbers)
-
-pub loop-n-init : goal.loop-n-init
-loop-n-init c = wrote_as (sym (comma_first c.args.numbers.now c.requires.some)) c.number.ensures
-
-pub byte-requires : goal.byte-requires
-byte-requires c = room_front c.loop-n.self (comma ∷ []) _ (room (goal.at.byte-requires c).In-loop-n)
-
-pub number-requires-in-loop-n : goal.number-requires-in-loop-n
-number-requires-in-loop-n c = rw (later c.args.numbers.now c.loop-n.n-index (inside (goal.at.number-requires-in-loop-n c).In-loop-n)) (room_left _ c.byte.ensures (room (goal.at.number-requires-in-loop-n c).In-loop-n))
-
-pub loop-n-preserved : goal.loop-n-preserved
-loop-n-preserved c =
-    let numbers = c.args.numbers.now in
-    let i = c.loop-n.n-index in
-    let h = inside (goal.at.loop-n-preserved c).In-loop-n in
-    rw (comma_next numbers (i + 1) (omega arith) h)
-    (wrote_on c.loop-n.invariant (wrote_on c.byte.ensures (rw (later numbers i h) at c.number-in-loop-n.ensures)))
-
-pub returns : goal.returns
-returns c =
-    let numbers = c.args.numbers.now in
-    wrote_as (ap comma_list (take_all (c.loop-n.n-index + 1) numbers (omega (arith, size numbers)))) c.loop-n.invariant
+    let k = c.loop-k.k in
+    let h = c.loop-k-test.true in
+    elim c.if-k-gt0.branch [
+      | then-k-gt0 w ↦ rw (comma_next numbers k w.if-k-gt0.true h) (wrote_on c.loop-k.invariant (wrote_on w.byte.ensures (rw w.self-is at c.number.ensures)))
+      | else-k-gt0 w ↦ rw (comma_first numbers k (omega arith) h) (wrote_on c.loop-k.invariant (rw w.self-is at c.number.ensures))
+    ]

@@ -4,9 +4,9 @@ use Rattle.line_writer.proofs.Puts.{wrote_none}
 use Rattle.text_theory.proofs.FixedLines.{no_line, a_line}
 use Rattle.writer.proofs.layer.write_fixed_line.Goals as goal
 
-pub line-requires-clause-room : goal.line-requires-clause-room
+pub line-requires : goal.line-requires
 unfolding ascii
-line-requires-clause-room c = rw c.from.ensures (rw (a_line c.args.i c.args.piece c.if-piece-ne-UNSET.true) at c.requires)
+line-requires c = rw c.from.ensures (rw (a_line c.args.i c.args.piece c.if-piece-ne-UNSET.true) at c.requires)
 
 pub returns-then-piece-ne-UNSET : goal.returns-then-piece-ne-UNSET
 unfolding ascii

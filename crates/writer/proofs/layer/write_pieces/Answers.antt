@@ -8,9 +8,9 @@ use Rattle.writer.proofs.layer.write_pieces.Goals as goal
 pub loop-piece-init : goal.loop-piece-init
 loop-piece-init c = laid_none piece_line piece_lines piece_laid _
 
-pub line-requires-clause-room : goal.line-requires-clause-room
+pub line-requires : goal.line-requires
 unfolding ascii
-line-requires-clause-room c = laid_room piece_line piece_lines piece_laid c.args.pieces.now c.loop-piece.piece-index no_piece c.loop-piece-test.true c.loop-piece.invariant c.requires
+line-requires c = laid_room piece_line piece_lines piece_laid c.args.pieces.now c.loop-piece.piece-index no_piece c.loop-piece-test.true c.loop-piece.invariant c.requires
 
 pub loop-piece-preserved : goal.loop-piece-preserved
 unfolding ascii
