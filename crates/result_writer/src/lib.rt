@@ -10,6 +10,7 @@ ghost use Rattle.rules.specs.ResultText.{verdict_line, result_text};
 use line_writer::Writer;
 use rules::{Decomposition, Verdict};
 
+// The verdict's line. Its `Display` would answer a `Result` here that nothing shows to be `Ok`.
 fn verdict_line(verdict: Verdict) -> &'static [u8]
     ensures { result.now ≡ verdict_line verdict }
 {
