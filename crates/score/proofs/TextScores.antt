@@ -12,8 +12,10 @@ use Rattle.rules.specs.declared.layer.Settings.{Settings}
 use Rattle.rules.specs.declared.layer.Piece.{Piece}
 use Rattle.rules.specs.declared.refusal.Place.{Place}
 use Rattle.rules.specs.declared.answers.LayerRead.{LayerRead}
-use Rattle.rules.specs.declared.answers.ScoreAnswer.{ScoreAnswer}
-use Rattle.rules.specs.Answers.{score_answer}
+use Rattle.std.proofs.Common.{Result}
+use Rattle.rules.specs.declared.answers.Scoring.{Scoring}
+use Rattle.rules.specs.declared.refusal.Refused.{Refused}
+use Rattle.rules.specs.Answers.{answer_of}
 use Rattle.rules.specs.Calls.{score_masks}
 use Rattle.rules.specs.Edges.{graph_of}
 use Rattle.rules.specs.Questions.{Outcome, done, ask, and_then, ask_each, Valid, judge_layer, read_layer}
@@ -30,10 +32,10 @@ use Rattle.score.specs.Texts.{score_text, ScoreOfNumbers}
 
 -- ---- The layer that was read
 
-pub score_read : (text masks : List ℕ) {r : LayerRead} → WasRead (read_layer text) r → (ps : List Piece) → ps ≡ take r.count r.pieces
-    → (answer : ScoreAnswer) → score_answer answer ≡ score_masks r.settings ps masks → score_answer answer ≡ score_text text masks
-score_read text masks w ps e answer told =
-    told ∙ ap₂ (λ (s : Settings) (qs : List Piece). score_masks s qs masks) w.settings (e ∙ w.pieces) ∙ sym (rw w.read)
+pub score_read : (text masks : List ℕ) {r : LayerRead} → WasRead (read_layer text) r
+    → (answer : Result Scoring Refused) → answer_of answer ≡ score_masks r.settings (take r.count r.pieces) masks → answer_of answer ≡ score_text text masks
+score_read text masks w answer told =
+    told ∙ ap₂ (λ (s : Settings) (qs : List Piece). score_masks s qs masks) w.settings w.pieces ∙ sym (rw w.read)
 
 -- ---- Masks for numbers
 
@@ -106,12 +108,12 @@ same_score s ps ns =
     (as_numbers s ps ns valid all below)))
 
 -- masks that were stored from a text of mask lines, in room for 513
-pub scored_numbers : (layer text masks : List ℕ) (count : ℕ) (answer : ScoreAnswer) → AllStored text masks count → length masks ≡ 513
-    → score_answer answer ≡ score_text layer (take count masks) → ScoreOfNumbers layer text answer
-scored_numbers layer text _ count answer a room e =
+pub scored_numbers : (layer text list : List ℕ) (answer : Result Scoring Refused) → AllStored text 513 list
+    → answer_of answer ≡ score_text layer list → ScoreOfNumbers layer text answer
+scored_numbers layer text list answer a e =
     let ns = a.numbers in
     record {
       numbers = ns;
       lines = a.lines;
-      score = e ∙ ap (score_text layer) (a.stored ∙ ap (λ (n : ℕ). masks_of n ns) room) ∙ then_same (read_layer layer) (λ l _. same_score l.settings l.pieces ns);
+      score = e ∙ ap (score_text layer) a.stored ∙ then_same (read_layer layer) (λ l _. same_score l.settings l.pieces ns);
     }

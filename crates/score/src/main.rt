@@ -8,100 +8,71 @@ mod texts;
 
 use bstr::BStr;
 use files::{argument, argument_count, read_file};
-use rules::{Place, Refusal, ScoreAnswer, Scoring};
+use rules::Scoring;
 use std::io;
 use std::rt::Files;
-use texts::{Scored, score_texts};
+use texts::{Unscored, score_texts};
 
-// ---- standard output
+// ---- the answer
 
 fn print_score(rt: &impl Print, scoring: Scoring) -> io::Result<()> {
-    let score = scoring.score;
+    let Scoring { score, tested } = scoring;
     println!(rt; "conflicts={}", score.conflicts)?;
     println!(rt; "stitches={}", score.stitches)?;
     println!(rt; "cost={}", score.cost)?;
-    println!(rt; "tested={}", scoring.tested)
+    println!(rt; "tested={tested}")
 }
 
-fn print_refusal(rt: &impl Print, refusal: Refusal, place: Place) -> io::Result<()> {
-    println!(rt; "refused={},{}", refusal.number(), place.number())
-}
-
-fn print_answer(rt: &impl Print, answer: ScoreAnswer) -> io::Result<()> {
-    match answer {
-        ScoreAnswer::Scored(scoring) => print_score(rt, scoring),
-        ScoreAnswer::Refused(refusal, place) => print_refusal(rt, refusal, place),
+// A refusal is an answer too. A line out of form is not: it is said on standard error.
+fn report(
+    rt: &(impl Print + Eprint),
+    mask_path: &[u8],
+    scored: Result<Scoring, Unscored>,
+) -> io::Result<()> {
+    match scored {
+        Ok(scoring) => print_score(rt, scoring),
+        Err(Unscored::Question(refused)) => println!(rt; "refused={refused}"),
+        Err(Unscored::Form(bad)) => eprintln!(rt; "{}: {bad}", BStr::new(mask_path)),
     }
 }
 
-// ---- standard error
+// ---- the program
 
 fn say_usage(rt: &impl Eprint) -> io::Result<()> {
     eprintln!(rt; "usage: score LAYER-FILE MASK-FILE")
 }
 
-fn say_long(rt: &impl Eprint, path: &[u8]) -> io::Result<()> {
-    eprintln!(rt; "{}: more than 65536 bytes", BStr::new(path))
-}
-
-fn say_bad(rt: &impl Eprint, path: &[u8], line: usize) -> io::Result<()> {
-    eprintln!(rt;
-        "{}: line {line} is not mask=NUMBER, byte 10 (RULES 9)",
-        BStr::new(path)
-    )
-}
-
-// ---- the program
-
-fn report(rt: &(impl Print + Eprint), mask_path: &[u8], scored: Scored) -> io::Result<()> {
-    match scored {
-        Scored::Answer(answer) => print_answer(rt, answer),
-        Scored::BadLine(line) => say_bad(rt, mask_path, line),
-    }
-}
-
-// Scores the masks of a file on a layer text. A file may have 65,536 bytes; one byte more is read, so that a longer one shows.
-fn score_masks(
-    rt: &(impl Files + Print + Eprint),
-    layer: &[u8],
-    mask_path: &[u8],
-) -> io::Result<()> {
-    let mut text = [0u8; 65537];
-    let read = read_file(rt, mask_path, &mut text);
-    if !read.good {
-        return Ok(());
-    }
-    let n = read.bytes;
-    if 65536 < n {
-        say_long(rt, mask_path)
-    } else {
-        report(rt, mask_path, score_texts(layer, &text[..n]))
-    }
-}
-
-// A layer text may have 32,768 bytes; one more is read, so that question 2 sees it.
+// A layer text may have 32,768 bytes; one more is read, so that question 2 sees it. A mask file may have 65,536 bytes; one byte more is
+// read, so that a longer one shows.
 fn score_files(
     rt: &(impl Files + Print + Eprint),
     layer_path: &[u8],
     mask_path: &[u8],
 ) -> io::Result<()> {
-    let mut text = [0u8; 32769];
-    let read = read_file(rt, layer_path, &mut text);
-    if !read.good {
+    let mut layer_text = [0u8; 32_769];
+    let mut mask_text = [0u8; 65_537];
+    let Some(layer) = read_file(rt, layer_path, &mut layer_text) else {
         return Ok(());
+    };
+    let Some(masks) = read_file(rt, mask_path, &mut mask_text) else {
+        return Ok(());
+    };
+    if masks.len() > 65_536 {
+        return eprintln!(rt; "{}: more than 65536 bytes", BStr::new(mask_path));
     }
-    let n = read.bytes;
-    score_masks(rt, &text[..n], mask_path)
+    report(rt, mask_path, score_texts(layer, masks))
 }
 
-// An argument that is missing, empty or longer than a path can be has the length 0.
+// No path is empty, and none is longer than its buffer.
 fn main(rt: HostRuntime) -> io::Result<()> {
-    let mut layer_path = [0u8; 4096];
-    let layer_bytes = argument(&rt, 1, &mut layer_path);
-    let mut mask_path = [0u8; 4096];
-    let mask_bytes = argument(&rt, 2, &mut mask_path);
-    if argument_count(&rt) != 3 || layer_bytes == 0 || mask_bytes == 0 {
-        return say_usage(&rt);
+    let mut first = [0u8; 4_096];
+    let mut second = [0u8; 4_096];
+    let layer_path = argument(&rt, 1, &mut first).filter(|path| !path.is_empty());
+    let mask_path = argument(&rt, 2, &mut second).filter(|path| !path.is_empty());
+    match (layer_path, mask_path) {
+        (Some(layer_path), Some(mask_path)) if argument_count(&rt) == 3 => {
+            score_files(&rt, layer_path, mask_path)
+        }
+        _ => say_usage(&rt),
     }
-    score_files(&rt, &layer_path[..layer_bytes], &mask_path[..mask_bytes])
 }

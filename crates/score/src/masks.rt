@@ -1,31 +1,24 @@
 // The masks of a text that is made of mask lines, as in a result text (RULES 10).
-ghost use Rattle.std.specs.Prelude.{◌≡◌, min, set};
-ghost use Rattle.score.specs.Masks.{mask_of, LineFound, MasksFound};
+ghost use Rattle.std.specs.Prelude.{◌≡◌, length, set, MatchOption, MatchResult};
+ghost use Rattle.score.specs.Masks.{mask_of, MaskRead, NoMaskLine, AllStored, BadLine};
+
+use std::fmt;
+use std::fmt::Display;
 
 // The mask that a number is handed on as. A number above 255 is no mask of any layer, and neither is 254, so question 8 refuses it
 // at its piece. It is not made 255, which says that a piece is not set.
 fn mask_of(number: u32) -> u8
     ensures { result ≡ mask_of number }
 {
-    if number <= 255 { number as u8 } else { 254 }
+    u8::try_from(number).unwrap_or(254)
 }
 
-// The mask of a line and how many bytes the line has, or a line out of form.
-#[derive(Clone, Copy)]
-pub enum MaskLine {
-    Mask(u8, usize),
-    Bad,
-}
-
-// The text's first line, which is to be a mask line.
-fn read_mask(text: &[u8]) -> MaskLine
-    ensures { LineFound text.now result }
+// The mask of the text's first line, and the text after it, if that is a mask line.
+fn split_mask(text: &[u8]) -> Option<(u8, &[u8])>
+    ensures { MatchOption result (NoMaskLine text.now) (λ split. MaskRead text.now split.0 split.1.now) }
 {
-    let line = lines::read_line(text, b"mask=", 1);
-    if !line.good {
-        return MaskLine::Bad;
-    }
-    MaskLine::Mask(mask_of(line.values[0]), line.bytes)
+    let line = lines::read_line::<1>(text, b"mask=")?;
+    Some((mask_of(line.values[0]), &text[line.bytes..]))
 }
 
 // Stores mask i, if there is room for it.
@@ -37,36 +30,33 @@ fn put_mask(masks: &mut [u8], i: usize, mask: u8)
     }
 }
 
-fn lesser(a: usize, b: usize) -> usize
-    ensures { result ≡ min a b }
-{
-    if a < b { a } else { b }
+// The first line, from 1, that is no mask line.
+#[derive(Clone, Copy, Debug, PartialEq, Eq)]
+pub struct LineError {
+    pub line: usize,
 }
 
-// How many masks are stored, or the first line, from 1, that is no mask line.
-#[derive(Clone, Copy)]
-pub enum MasksRead {
-    Stored(usize),
-    Bad(usize),
-}
-
-// Stores the masks at the front of the list. Lines for which there is no room are judged for their form alone.
-pub fn read_masks(text: &[u8], masks: &mut [u8]) -> MasksRead
-    ensures { MasksFound text.now masks.new result }
-{
-    let mut at = 0;
-    let mut lines = 0;
-    while at < text.len() {
-        match read_mask(&text[at..]) {
-            MaskLine::Mask(mask, bytes) => {
-                put_mask(masks, lines, mask);
-                at += bytes;
-                lines += 1;
-            }
-            MaskLine::Bad => {
-                return MasksRead::Bad(lines + 1);
-            }
-        }
+impl Display for LineError {
+    fn fmt<W: fmt::Write>(&self, f: &mut fmt::Formatter<W>) -> fmt::Result {
+        write!(
+            f,
+            "line {} is not mask=NUMBER, byte 10 (RULES 9)",
+            self.line
+        )
     }
-    MasksRead::Stored(lesser(lines, masks.len()))
+}
+
+// Stores the masks at the front of the list, and answers that part of it. Lines for which there is no room are judged for their form alone.
+pub fn read_masks<'a>(text: &[u8], masks: &'a mut [u8]) -> Result<&'a [u8], LineError>
+    ensures { MatchResult result (λ stored. AllStored text.now (length masks.old) stored.now) (λ bad. BadLine text.now bad.line) }
+{
+    let mut rest = text;
+    let mut count = 0;
+    while !rest.is_empty() {
+        let (mask, after) = split_mask(rest).ok_or(LineError { line: count + 1 })?;
+        put_mask(masks, count, mask);
+        rest = after;
+        count += 1;
+    }
+    Ok(&masks[..count.min(masks.len())])
 }

@@ -1,7 +1,12 @@
 -- `score_texts`: the masks that are stored score as the numbers of the text. Assumes nothing.
-use borrow.Author.Rules.{rules}
+use Rattle.std.proofs.lemmas.Result.{err_from_is_err_and}
 use Rattle.score.proofs.TextScores.{scored_numbers}
 use Rattle.score.proofs.texts.score_texts.Goals as goal
 
-pub returns-in-Stored : goal.returns-in-Stored
-returns-in-Stored c = scored_numbers _ _ _ _ c.score_layer.result c.in-Stored.ensures (search rules) c.score_layer.ensures
+pub returns-in_err-score_layer : goal.returns-in_err-score_layer
+returns-in_err-score_layer c =
+    let p = err_from_is_err_and c.from_residual-in_err-score_layer.result c.from_residual-in_err-score_layer.ensures.1 in
+    rw (p.1, p.2) (scored_numbers _ _ _ _ c.in_ok-masks.ensures c.in_err-score_layer.ensures)
+
+pub returns : goal.returns
+returns c = scored_numbers _ _ _ _ c.in_ok-masks.ensures c.in_ok-score_layer.ensures
