@@ -1,109 +1,74 @@
 // The search of the core (RULES 5, 6, 17 and 19): one component after the other, in the order of their lowest units, within one budget. Components
-// are found on the words of units; costs come from the words of pieces. The decomposition stands on this crate.
-//
-// The numbers of a search are those of `search`: at 0 the incumbent's cost, at 1 whether a step was due beyond the budget (1 if so), at 2 how many
-// places there are, at 3 the masks, at 4 the weight, at 5 the budget, at 6 where the search ends, at 7 the steps left then.
+// are found on the edges of units; costs come from the edges of pieces. The decomposition stands on this crate.
 #![tactic(auto)]
 
-ghost use Rattle.std.specs.Prelude.{◌≡◌, length, set};
-ghost use Rattle.core_search.specs.Core.{Words, Given, OneSearched, CoreSearched};
-ghost use Rattle.adjacency.specs.UnitGraph.{unit_graph, fixed_at};
+ghost use Rattle.core_search.specs.Core.{Sound, graph_of, Given, OneSearched, CoreSearched};
+ghost use Rattle.adjacency.specs.UnitGraph.{fixed_at};
 ghost use Rattle.units.specs.Merged.{Merged};
-ghost use Rattle.search.specs.Branch.{budget_in};
 
-// Stores how many places there are, and where the search ends.
-fn pose(numbers: &mut [u64; 8], size: usize, end: u64)
-    ensures { numbers.new ≡ set (set numbers.old 2 size) 6 end }
-{
-    let all: &mut [u64] = numbers;
-    all[2] = size as u64;
-    all[6] = end;
+use adjacency::EdgeSets;
+use bitset::BitSet;
+use early_end::library_end;
+use places::Lists;
+use search::search_component;
+pub use search::{Limits, Progress};
+
+// The graph of units: the edges of the pieces below n, and the unit of each of these.
+#[derive(Clone, Copy)]
+pub struct UnitGraph<'a> {
+    pub edges: &'a EdgeSets,
+    pub units: &'a [u16; 512],
+    pub n: usize,
 }
 
-// Searches one component, and puts its masks down at the units' numbers. `fixed` has the units' fixed masks. Answers how many of the `left`
-// steps are left then.
+// Searches one component, and puts its masks down at the units' numbers. `fixed` has the units' fixed masks. What was in the lists says nothing.
 fn search_one(
-    conflicts: &[u64; 4096],
-    stitches: &[u64; 4096],
-    units: &[u16; 512],
-    n: usize,
+    graph: &UnitGraph,
     fixed: &[u8; 512],
-    component: &[u64; 8],
-    order: &mut [u16; 512],
-    local: &mut [u8; 512],
-    starts: &mut [u32; 1025],
-    list: &mut [u16; 131584],
-    incumbent: &mut [u8; 512],
-    numbers: &mut [u64; 8],
-    left: u64,
+    component: &BitSet,
+    lists: &mut Lists,
+    limits: Limits,
+    progress: &mut Progress,
     res: &mut [u8],
-) -> u64
-    requires words { Words conflicts.now stitches.now units.now n }
-    requires given { Given fixed.now component.now numbers.old left res.old }
-    requires order_len { (length order.old ≡ 512) × (length local.old ≡ 512) × (length starts.old ≡ 1025) × (length list.old ≡ 131_584) }
-    ensures one_searched { OneSearched (unit_graph conflicts.now stitches.now units.now n) (fixed_at fixed.now) component.now numbers.old numbers.new left res.old res.new result }
-    ensures order_len_2 { (length order.new ≡ 512) × (length local.new ≡ 512) × (length starts.new ≡ 1025) × (length list.new ≡ 131_584) }
+)
+    requires sound { Sound graph.now }
+    requires given { Given fixed.now component.now limits progress.old res.old }
+    ensures { OneSearched (graph_of graph.now) (fixed_at fixed.now) component.now limits progress.old progress.new res.old res.new }
 {
-    let size = places::list_members(component, order);
-    places::local_fixed(order, size, fixed, local);
-    places::lay_out(conflicts, stitches, units, n, order, size, starts, list);
-    let end = early_end::library_end(starts, list, local, size, numbers[3], numbers[4]);
-    pose(numbers, size, end);
-    let rest = search::search_component(starts, list, local, incumbent, numbers, left);
-    places::put_masks(order, size, incumbent, res);
-    rest
+    let order = places::list_members(component);
+    let order = order.as_slice();
+    let own = places::local_fixed(order, fixed);
+    let own = own.as_slice();
+    lists.lay_out(graph.edges, graph.units, graph.n, order);
+    let end = library_end(lists, own, limits.masks, limits.weight);
+    let best = search_component(lists, own, limits, end, progress);
+    places::put_masks(order, &best.masks[..order.len()], res);
 }
 
-// Searches the components of the core, and puts their masks down at the units' numbers. `near` and `stitched` are the words of units, for conflict and
-// for stitch edges; `fixed` has the units' fixed masks. Answers how many steps of the budget are left.
+// Searches the components of the core, and puts their masks down at the units' numbers. `merged` has the edges of units, and `fixed` their fixed masks.
 pub fn search_core(
-    conflicts: &[u64; 4096],
-    stitches: &[u64; 4096],
-    near: &[u64; 4096],
-    stitched: &[u64; 4096],
-    units: &[u16; 512],
-    n: usize,
+    graph: &UnitGraph,
+    merged: &EdgeSets,
     fixed: &[u8; 512],
-    core: &[u64; 8],
-    numbers: &mut [u64; 8],
+    core: &BitSet,
+    limits: Limits,
+    progress: &mut Progress,
     res: &mut [u8],
-) -> u64
-    requires words { Words conflicts.now stitches.now units.now n }
-    requires merged { Merged conflicts.now units.now n near.now }
-    requires merged_2 { Merged stitches.now units.now n stitched.now }
-    requires given { Given fixed.now core.now numbers.old (budget_in numbers.old) res.old }
-    ensures { CoreSearched (unit_graph conflicts.now stitches.now units.now n) (fixed_at fixed.now) core.now numbers.old numbers.new res.old res.new result }
+)
+    requires sound { Sound graph.now }
+    requires merged { Merged graph.now.edges.now.conflicts graph.now.units.now graph.now.n merged.now.conflicts }
+    requires merged_2 { Merged graph.now.edges.now.stitches graph.now.units.now graph.now.n merged.now.stitches }
+    requires given { Given fixed.now core.now limits progress.old res.old }
+    ensures { CoreSearched (graph_of graph.now) (fixed_at fixed.now) core.now limits progress.old progress.new res.old res.new }
 {
-    let mut order = [0u16; 512];
-    let mut local = [0u8; 512];
-    let mut starts = [0u32; 1025];
-    let mut list = [0u16; 131584];
-    let mut incumbent = [0u8; 512];
-    let mut left = numbers[5];
+    let mut lists = Lists {
+        starts: [0; 1025],
+        entries: [0; 131584],
+    };
     let mut rest = *core;
-    loop {
-        let v = bitset::lowest(&rest);
-        if v == 512 {
-            break;
-        }
-        let component = components::component(near, stitched, &rest, v);
-        left = search_one(
-            conflicts,
-            stitches,
-            units,
-            n,
-            fixed,
-            &component,
-            &mut order,
-            &mut local,
-            &mut starts,
-            &mut list,
-            &mut incumbent,
-            numbers,
-            left,
-            res,
-        );
-        rest = bitset::difference_of(&rest, &component);
+    while let Some(v) = rest.lowest() {
+        let component = components::component(&merged.conflicts, &merged.stitches, &rest, v);
+        search_one(graph, fixed, &component, &mut lists, limits, progress, res);
+        rest = rest.difference(&component);
     }
-    left
 }

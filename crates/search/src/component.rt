@@ -1,50 +1,56 @@
 // The search of one component, from its first assignment on.
 ghost use Rattle.search.specs.Component.{Posed, Searched};
 
-use crate::branch::search_place;
-use crate::incumbent::{hold, is_end, steps_left, store};
+use crate::branch::Problem;
+use crate::incumbent::Walk;
+use crate::limits::{Best, Limits, Progress};
 use first_assignment::{first_assignment, has_fixed};
-use rows::{note_fixed, weight_table};
+use places::Lists;
+use rows::Table;
 
-// `fixed` has the fixed masks of the places. Leaves the best masks that were found in `incumbent`, and their cost and whether the search was
-// stopped in `numbers`, where the rest is given. Answers how many of the `left` steps are left then.
+// `fixed` has the fixed masks of the places, and `end` the cost at which the search ends, if there is one (RULES 19).
 pub fn search_component(
-    starts: &[u32; 1025],
-    list: &[u16; 131584],
-    fixed: &[u8; 512],
-    incumbent: &mut [u8; 512],
-    numbers: &mut [u64; 8],
-    left: u64,
-) -> u64
-    requires { Posed starts.now list.now fixed.now numbers.old left }
-    ensures { Searched starts.now list.now fixed.now incumbent.new numbers.old numbers.new left result }
+    lists: &Lists,
+    fixed: &[u8],
+    limits: Limits,
+    end: Option<u64>,
+    progress: &mut Progress,
+) -> Best
+    requires { Posed lists.now fixed.now limits progress.old }
+    ensures { Searched lists.now fixed.now limits end progress.old progress.new result }
 {
-    let size = numbers[2] as usize;
-    let mut table = weight_table(numbers[4]);
-    note_fixed(&mut table, fixed, size);
+    let problem = Problem {
+        lists,
+        table: Table::new(limits.weight, fixed),
+        size: fixed.len(),
+        limits,
+        end,
+    };
     let mut partial = [0u8; 512];
-    let cost = first_assignment(starts, list, &table, fixed, &mut partial, size, numbers[3]);
-    hold(&partial, incumbent);
-    store(numbers, 0, cost);
-    if is_end(numbers, cost) {
-        return left;
+    let cost = first_assignment(lists, &problem.table, fixed, limits.masks, &mut partial);
+    if end == Some(cost) {
+        return Best {
+            masks: partial,
+            cost,
+        };
     }
-    let used = if has_fixed(fixed, size) {
-        numbers[3]
+    let mut walk = Walk {
+        partial,
+        incumbent: partial,
+        cost,
+        stopped: progress.stopped,
+        ended: None,
+    };
+    let used = if has_fixed(fixed) {
+        limits.masks as usize
     } else {
         0
     };
-    let rest = search_place(
-        starts,
-        list,
-        &table,
-        &mut partial,
-        incumbent,
-        numbers,
-        0,
-        0,
-        used,
-        left,
-    );
-    steps_left(numbers, rest)
+    let rest = problem.search_place(&mut walk, 0, 0, used, progress.left);
+    progress.left = walk.ended.unwrap_or(rest);
+    progress.stopped = walk.stopped;
+    Best {
+        masks: walk.incumbent,
+        cost: walk.cost,
+    }
 }

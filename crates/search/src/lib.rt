@@ -5,5 +5,7 @@
 mod branch;
 mod component;
 mod incumbent;
+mod limits;
 
 pub use component::search_component;
+pub use limits::{Best, Limits, Progress};
