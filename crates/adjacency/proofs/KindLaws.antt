@@ -1,14 +1,13 @@
 -- The edge between two pieces is of one kind, or it is none: it is a conflict, a stitch or a tie exactly where the rules' test for that kind passes. Assumes nothing.
 use mathlib.Core.Bool.{false}
-use mathlib.Core.Path.{◌≡◌, refl}
+use mathlib.Core.Path.{◌≡◌}
 use native.Mathlib.Omega.{arith}
 use Rattle.rules.specs.declared.layer.Settings.{Settings}
 use Rattle.rules.specs.declared.layer.Piece.{Piece}
-use Rattle.rules.specs.declared.layer.Edge.{Edge}
 use Rattle.rules.specs.Edges.{conflict_edge, stitch_edge, tied, edge_of}
 use Rattle.rules.proofs.Edges.{one_kind, tie_test, tie_exactly}
-use Rattle.rules.proofs.Tests.{by_test, clash}
-use Rattle.adjacency.specs.Kinds.{is_some, is_conflict, is_stitch, is_tie}
+use Rattle.rules.proofs.Tests.{by_test}
+use Rattle.adjacency.specs.Kinds.{is_conflict, is_stitch, is_tie}
 
 module _ (s : Settings) (p q : Piece) where
   pub conflict_kind : is_conflict (edge_of s p q) ≡ conflict_edge s p q

@@ -83,12 +83,7 @@ impl BitSet {
     pub fn lowest(&self) -> Option<usize>
         ensures { Least (member self.now) result }
     {
-        for (w, word) in self.words.iter().enumerate() {
-            if *word != 0 {
-                return Some(64 * w + lowest_bit(*word));
-            }
-        }
-        None
+        self.members().next()
     }
 
     // Takes the least member out, and answers which it was.
