@@ -2,13 +2,13 @@
 -- with the score that is the run, of which demand 3 holds. Assumes nothing.
 use mathlib.Core.Bool.{true, not, ◌&&◌}
 use mathlib.Core.List.{List, [], ◌∷◌}
-use mathlib.Core.Logic.{⊎_elim}
-use mathlib.Core.Path.{◌≡◌, refl, sym, ap, ap₂, subst, subst⁻¹, ◌∙◌}
+use mathlib.Core.Path.{◌≡◌, refl, sym, ap, subst, subst⁻¹, ◌∙◌}
 use Prim.Native.Nat.{ℕ, ◌≤◌, ◌<◌}
 use native.Mathlib.Omega.{arith}
 use lib.Dec.{eqb}
-use lib.ListN.{length, take, replicate}
-use lib.Seq.{length-take-le}
+use lib.ListN.{length, replicate}
+use Rattle.std.specs.Prelude as std
+use Rattle.std.specs.Prelude.{None, Some}
 use Rattle.rules.specs.declared.layer.Settings.{Settings}
 use Rattle.rules.specs.declared.layer.Piece.{Piece}
 use Rattle.rules.specs.declared.answers.Score.{Score}
@@ -18,28 +18,25 @@ use Rattle.rules.specs.Basics.{up_to, found_at}
 use Rattle.rules.specs.Settings.{unset, fixed_masks}
 use Rattle.rules.specs.Edges.{Graph, graph_of}
 use Rattle.rules.specs.Score.{mask_of, is_set, score_of}
-use Rattle.rules.specs.Units.{unit_of, merged_graph, unit_numbers, spread, unit_fixed}
+use Rattle.rules.specs.Units.{unit_of, merged_graph, spread, unit_fixed}
 use Rattle.rules.specs.Decomposition.{Reached, decompose, reached, verdict_of, Run, run}
 use Rattle.rules.specs.Answers.{run_of}
 use Rattle.rules.specs.Demands.{AgainstLarger}
 use Rattle.rules.specs.Questions.{Outcome, done, refused, Valid}
 use Rattle.rules.proofs.Finding.{find_same}
 use Rattle.rules.proofs.Lists.{◌∈◌, here, in_up_to}
-use Rattle.rules.proofs.Tests.{lt_or_ge}
+use Rattle.rules.proofs.Reading as reading
 use Rattle.rules.proofs.Validity.{sound_fixed, valid_sound}
-use Rattle.layout.specs.Flat.{pieces_of, records_of}
-use Rattle.adjacency.specs.Adjacency.{Holds, Adjacency, word_graph}
+use Rattle.adjacency.specs.Adjacency.{Adjacency, word_graph}
 use Rattle.adjacency.specs.Members.{members_of}
 use Rattle.adjacency.specs.UnitGraph.{unit_at, unit_graph, fixed_at}
-use Rattle.layout.proofs.PieceLaws.{pieces_length, valid_flat}
-use Rattle.layout.proofs.RecordLaws.{records_length}
-use Rattle.layout.proofs.WithoutFixed.{records_graph, records_unit, records_valid, records_fixed}
 use Rattle.adjacency.proofs.MemberLaws.{in_members}
-use Rattle.units.specs.Noted.{NotedMasks}
+use Rattle.units.specs.Noted.{NotedMasks, fitting}
 use Rattle.units.specs.Numbered.{UnitsOf}
 use Rattle.units.proofs.SplitLaws.{one_splits}
-use Rattle.fixed_masks.proofs.FixedLaws.{fixed_asked}
-use Rattle.core_search.specs.Core.{Words}
+use Rattle.fixed_masks.proofs.FixedLaws.{masks_length, fixed_asked}
+use Rattle.core_search.specs.declared.UnitGraph.{UnitGraph}
+use Rattle.core_search.specs.Core.{Sound}
 use Rattle.counting.proofs.ScoreLaws.{words_score}
 use Rattle.theory.proofs.Merging.{Grouping, number_in, between_same, spread_length, spread_only, spread_at}
 use Rattle.theory.proofs.FixedUnits.{units_below, fixable}
@@ -55,100 +52,70 @@ use Rattle.decomposer.proofs.LayerWords.{one_kind_each, layer_edges}
 passes_not : {number : ℕ} {place : Place} → ◌≡◌ {A = Outcome (Unit {0})} (done tt) (refused number place) → ⊥
 passes_not e = let z : ◌≡◌ {A = ℕ} 0 1 = cc in omega arith
 
-module _ (s : Settings) (flat fixed : List ℕ) (n : ℕ) (valid : Valid s (records_of flat fixed n)) where
-  abbrev ps : List Piece
-  ps = records_of flat fixed n
+module _ (s : Settings) (ps : List Piece) (valid : Valid s ps) where
+  pub few : length ps ≤ 512
+  few = reading.few (length ps) (valid_sound s ps valid).count
 
-  -- the numbers alone state the layer without its fixed masks, with the same edges and units
-  pub unfixed_valid : Valid s (pieces_of flat n)
-  unfixed_valid = records_valid flat fixed n s valid
-
-  few : n ≤ 512
-  few = (valid_flat s flat n unfixed_valid).count
-
-  size : length ps ≡ n
-  size = records_length flat fixed n
-
-  module _ {conflicts stitches oldUnits units all : List ℕ} (words : Adjacency s (pieces_of flat n) n conflicts stitches) (array : UnitsOf s (pieces_of flat n) oldUnits units all) where
-    pub adjacency : Adjacency s ps n conflicts stitches
-    adjacency = record {
-      conflicts = subst (λ (h : Graph). Holds h.conflicts n conflicts) (records_graph flat fixed n s) words.conflicts;
-      stitches = subst (λ (h : Graph). Holds h.stitches n stitches) (records_graph flat fixed n s) words.stitches;
-    }
-
-    numbers_are : members_of all ≡ unit_numbers (unit_of s ps) (length ps)
-    numbers_are = array.numbers ∙ ap₂ unit_numbers (records_unit flat fixed n s) (pieces_length flat n ∙ sym size)
-
-    unit_is : (i : ℕ) → i < n → unit_at units i ≡ unit_of s ps i
-    unit_is i l = array.unit i (omega (arith, pieces_length flat n)) ∙ ap (λ (unit : ℕ → ℕ). unit i) (records_unit flat fixed n s)
-
-    array_grouping : Grouping (unit_at units) n
+  module _ {conflicts stitches oldUnits units all : List ℕ} (adjacency : Adjacency s ps (length ps) conflicts stitches) (array : UnitsOf s ps oldUnits units all) where
+    array_grouping : Grouping (unit_at units) (length ps)
     array_grouping = record {
-      lower = λ i l. omega (arith, unit_is i l, (grouping s ps).lower i (omega (arith, size)));
+      lower = λ i l. omega (arith, array.unit i l, (grouping s ps).lower i l);
       again = λ i l.
-          let low : unit_of s ps i ≤ i = (grouping s ps).lower i (omega (arith, size)) in
-          ap (unit_at units) (unit_is i l) ∙ unit_is (unit_of s ps i) (omega arith) ∙ (grouping s ps).again i (omega (arith, size)) ∙ sym (unit_is i l);
+          let low : unit_of s ps i ≤ i = (grouping s ps).lower i l in
+          ap (unit_at units) (array.unit i l) ∙ array.unit (unit_of s ps i) (omega arith) ∙ (grouping s ps).again i l ∙ sym (array.unit i l);
     }
 
-    pub layer_words : Words conflicts stitches units n
-    layer_words = record {
-      exclusive = one_kind_each adjacency;
-      conflicts = conflicts_both_ways adjacency;
-      stitches = stitches_both_ways adjacency;
-      few = few;
-      small = λ i l. omega (arith, array_grouping.lower i l, few);
+    -- the graph of units is fit to be searched
+    pub layer_sound : (u : UnitGraph) → u.edges.now.conflicts ≡ conflicts → u.edges.now.stitches ≡ stitches → u.units.now ≡ units → u.n ≡ length ps → Sound u
+    layer_sound u c t a e = record {
+      exclusive = rw (c, t) (one_kind_each adjacency);
+      conflicts = rw c (conflicts_both_ways adjacency);
+      stitches = rw t (stitches_both_ways adjacency);
+      few = omega (arith, few);
+      small = λ i l. rw a (omega (arith, array_grouping.lower i (rw e at l), few));
     }
 
-    -- units have places in a list of n masks
-    pub unit_places : (masks : List ℕ) → length masks ≡ n → HasPlaces all masks
+    -- units have places in a list of as many masks as pieces
+    pub unit_places : (masks : List ℕ) → length masks ≡ length ps → HasPlaces all masks
     unit_places masks e u l m =
-        let there = subst (λ (vs : List ℕ). u ∈ vs) numbers_are ((in_members all u).1 (l, m)) in
-        omega (arith, (number_in (unit_of s ps) (length ps) there).0, size)
+        let there = subst (λ (vs : List ℕ). u ∈ vs) array.numbers ((in_members all u).1 (l, m)) in
+        omega (arith, (number_in (unit_of s ps) (length ps) there).0)
 
     -- the graph of the array's units is that of the layer's
     abbrev g : Graph
-    g = unit_graph conflicts stitches units n
+    g = unit_graph conflicts stitches units (length ps)
 
-    same_graph : (vs : List ℕ) → SameEdges g (merged_graph (unit_of s ps) n (graph_of s ps)) vs
+    same_graph : (vs : List ℕ) → SameEdges g (merged_graph (unit_of s ps) (length ps) (graph_of s ps)) vs
     same_graph vs =
         let edges = layer_edges adjacency few in
         record {
-          conflicts = λ u v _ _. between_same (unit_at units) n unit_is _ _ (λ i j l k. sym (edges.conflicts i j ((in_up_to n i).1 l) ((in_up_to n j).1 k))) u v;
-          stitches = λ u v _ _. between_same (unit_at units) n unit_is _ _ (λ i j l k. sym (edges.stitches i j ((in_up_to n i).1 l) ((in_up_to n j).1 k))) u v;
+          conflicts = λ u v _ _. between_same (unit_at units) (length ps) array.unit _ _ (λ i j l k. sym (edges.conflicts i j ((in_up_to (length ps) i).1 l) ((in_up_to (length ps) j).1 k))) u v;
+          stitches = λ u v _ _. between_same (unit_at units) (length ps) array.unit _ _ (λ i j l k. sym (edges.stitches i j ((in_up_to (length ps) i).1 l) ((in_up_to (length ps) j).1 k))) u v;
         }
 
     -- the fixed masks of the pieces are those that are noted of their units
-    module _ {noted : List ℕ} {k : ℕ} (room : n ≤ length fixed) (first : NotedMasks (unit_at units) (take n fixed) noted k) where
-      long_enough : length (take n fixed) ≡ n
-      long_enough = length-take-le n fixed room
-
+    module _ {noted : List ℕ} {misfit : std.Option ℕ} (first : NotedMasks (unit_at units) (fixed_masks ps) noted misfit) where
       -- 14 was passed, so no piece splits its unit
-      all_noted : k ≡ n
-      all_noted =
-          ⊎_elim
-          (λ (l : k < length (take n fixed)).
-          absurd (passes_not (sym (sound_fixed s ps (valid_sound s ps valid)) ∙ fixed_asked s flat fixed n room array ∙ one_splits first 14 l)))
-          (λ l. omega (arith, first.within, long_enough))
-          (lt_or_ge k (length (take n fixed)))
+      all_noted : (o : std.Option ℕ) → NotedMasks (unit_at units) (fixed_masks ps) noted o → fitting (fixed_masks ps) o ≡ length ps
+      all_noted None f = masks_length ps
+      all_noted (Some r) f = absurd (passes_not (sym (sound_fixed s ps (valid_sound s ps valid)) ∙ fixed_asked s ps array ∙ one_splits 14 f))
 
-      noted_fixed : (u : ℕ) → fixed_at noted u ≡ unit_fixed (unit_of s ps) n (fixed_masks ps) u
+      noted_fixed : (u : ℕ) → fixed_at noted u ≡ unit_fixed (unit_of s ps) (length ps) (fixed_masks ps) u
       noted_fixed u =
-          let masks = take n fixed in
+          let masks = fixed_masks ps in
           first.masks_noted u
-          ∙ ap (λ (j : ℕ). unit_fixed (unit_at units) j masks u) all_noted
-          ∙ ap (found_at (mask_of masks) unset) (find_same _ (λ i. is_set masks i && eqb (unit_of s ps i) u) (up_to n) (λ i m. rw (unit_is i ((in_up_to n i).0 m))))
-          ∙ ap (λ (ms : List ℕ). unit_fixed (unit_of s ps) n ms u) (sym (records_fixed flat fixed n room))
+          ∙ ap (λ (j : ℕ). unit_fixed (unit_at units) j masks u) (all_noted misfit first)
+          ∙ ap (found_at (mask_of masks) unset) (find_same _ (λ i. is_set masks i && eqb (unit_of s ps i) u) (up_to (length ps)) (λ i m. rw (array.unit i ((in_up_to (length ps) i).0 m))))
 
       pub units_fixed : HasFixed s.masks noted all
       units_fixed = record {
         whole = first.whole;
         low = λ u l m e.
-            let same = noted_fixed u ∙ ap (λ (j : ℕ). unit_fixed (unit_of s ps) j (fixed_masks ps) u) (sym size) in
-            subst⁻¹ (λ (x : ℕ). x < s.masks) same
-            (units_below (fixable s ps valid) (u ∷ []) u (here refl) (subst (λ (x : ℕ). not (eqb x unset) ≡ true) same e));
+            subst⁻¹ (λ (x : ℕ). x < s.masks) (noted_fixed u)
+            (units_below (fixable s ps valid) (u ∷ []) u (here refl) (subst (λ (x : ℕ). not (eqb x unset) ≡ true) (noted_fixed u) e));
       }
 
-      module _ {before found : List ℕ} {r : Searched} (long : length before ≡ n) (done : Decomposed s g (fixed_at noted) all before found r) where
+      module _ {before found : List ℕ} {r : Searched} (long : length before ≡ length ps) (done : Decomposed s g (fixed_at noted) all before found r) where
         -- what the layer's units reach
         abbrev on_units : Reached
         on_units = reached_of s (merged_graph (unit_of s ps) (length ps) (graph_of s ps)) (unit_fixed (unit_of s ps) (length ps) (fixed_masks ps)) all (length ps)
@@ -157,8 +124,7 @@ module _ (s : Settings) (flat fixed : List ℕ) (n : ℕ) (valid : Valid s (reco
         units_reach =
             ap (reached_of s g (fixed_at noted) all) long
             ∙ decompose_same s.masks s.weight s.budget (fixed_at noted) (members_of all) _ (same_graph (members_of all))
-            ∙ decompose_fixed s.masks s.weight s.budget (merged_graph (unit_of s ps) n (graph_of s ps)) (members_of all) _ (λ u m. noted_fixed u)
-            ∙ ap (λ (j : ℕ). reached_of s (merged_graph (unit_of s ps) j (graph_of s ps)) (unit_fixed (unit_of s ps) j (fixed_masks ps)) all j) (sym size)
+            ∙ decompose_fixed s.masks s.weight s.budget (merged_graph (unit_of s ps) (length ps) (graph_of s ps)) (members_of all) _ (λ u m. noted_fixed u)
 
         -- the same with the numbers as the rules list them, and each piece on its unit's mask
         abbrev spreads : Reached → Reached
@@ -166,15 +132,15 @@ module _ (s : Settings) (flat fixed : List ℕ) (n : ℕ) (valid : Valid s (reco
 
         spread_reach : spreads on_units ≡ reached s ps
         spread_reach =
-            ap (λ (vs : List ℕ). spreads (decompose s.masks s.weight s.budget (merged_graph (unit_of s ps) (length ps) (graph_of s ps)) (unit_fixed (unit_of s ps) (length ps) (fixed_masks ps)) vs (replicate (length ps) 0))) numbers_are
+            ap (λ (vs : List ℕ). spreads (decompose s.masks s.weight s.budget (merged_graph (unit_of s ps) (length ps) (graph_of s ps)) (unit_fixed (unit_of s ps) (length ps) (fixed_masks ps)) vs (replicate (length ps) 0))) array.numbers
 
         reached_steps : r.steps ≡ (reached s ps).steps
         reached_steps = done.steps ∙ ap (λ (w : Reached). w.steps) units_reach ∙ ap (λ (w : Reached). w.steps) spread_reach
 
-        reached_stopped : r.stopped ≡ (reached s ps).stopped
-        reached_stopped = done.stopped ∙ ap (λ (w : Reached). w.stopped) units_reach ∙ ap (λ (w : Reached). w.stopped) spread_reach
+        reached_verdict : r.verdict ≡ verdict_of (reached s ps).stopped
+        reached_verdict = done.verdict ∙ ap (λ (w : Reached). verdict_of w.stopped) units_reach ∙ ap (λ (w : Reached). verdict_of w.stopped) spread_reach
 
-        found_size : length found ≡ n
+        found_size : length found ≡ length ps
         found_size = done.size ∙ long
 
         pub found_few : length found ≤ 512
@@ -184,16 +150,16 @@ module _ (s : Settings) (flat fixed : List ℕ) (n : ℕ) (valid : Valid s (reco
         found_grouping = subst (Grouping (unit_at units)) (sym found_size) array_grouping
 
         module _ {after : List ℕ} (all-spread : after ≡ spread (unit_at units) (length found) found) where
-          wide : after ≡ spread (unit_at units) n found
+          wide : after ≡ spread (unit_at units) (length ps) found
           wide = all-spread ∙ ap (λ (k : ℕ). spread (unit_at units) k found) found_size
 
-          pub after_size : length after ≡ n
-          after_size = ap length wide ∙ spread_length (unit_at units) n found
+          pub after_size : length after ≡ length ps
+          after_size = ap length wide ∙ spread_length (unit_at units) (length ps) found
 
           by_unit : after ≡ spread (unit_of s ps) (length ps) found
           by_unit =
-              spread_only (unit_of s ps) n found after after_size (λ i l. ap (λ (ms : List ℕ). mask_of ms i) wide ∙ spread_at (unit_at units) n found i l ∙ ap (mask_of found) (unit_is i l))
-              ∙ ap (λ (k : ℕ). spread (unit_of s ps) k found) (sym size)
+              spread_only (unit_of s ps) (length ps) found after after_size
+              (λ i l. ap (λ (ms : List ℕ). mask_of ms i) wide ∙ spread_at (unit_at units) (length ps) found i l ∙ ap (mask_of found) (array.unit i l))
 
           reached_masks : after ≡ (reached s ps).masks
           reached_masks =
@@ -201,20 +167,24 @@ module _ (s : Settings) (flat fixed : List ℕ) (n : ℕ) (valid : Valid s (reco
               ∙ ap (spread (unit_of s ps) (length ps)) (done.masks ∙ ap (λ (w : Reached). w.masks) units_reach)
               ∙ ap (λ (w : Reached). w.masks) spread_reach
 
-          module _ {score : Score} (scored : score ≡ score_of s.weight (word_graph conflicts stitches) after n) where
+          module _ {score : Score} (scored : score ≡ score_of s.weight (word_graph conflicts stitches) after (length after)) where
             score_same : score ≡ score_of s.weight (graph_of s ps) (reached s ps).masks (length ps)
-            score_same = scored ∙ words_score s.weight s ps n conflicts stitches after adjacency few ∙ rw (reached_masks, size)
+            score_same =
+                scored
+                ∙ ap (score_of s.weight (word_graph conflicts stitches) after) after_size
+                ∙ words_score s.weight s ps (length ps) conflicts stitches after adjacency few
+                ∙ rw reached_masks
 
             -- the run of the rules
             pub run_same : {d : Decomposition} → d.conflicts ≡ score.conflicts → d.stitches ≡ score.stitches → d.cost ≡ score.cost → d.steps ≡ r.steps
-                → d.verdict ≡ verdict_of r.stopped → run_of d after ≡ run s ps
+                → d.verdict ≡ r.verdict → run_of d after ≡ run s ps
             unfolding run
             run_same c t w e v =
                 let cs = c ∙ ap (λ (x : Score). x.conflicts) score_same in
                 let ts = t ∙ ap (λ (x : Score). x.stitches) score_same in
                 let ws = w ∙ ap (λ (x : Score). x.cost) score_same in
                 let es = e ∙ reached_steps in
-                let vs = v ∙ ap verdict_of reached_stopped in
+                let vs = v ∙ reached_verdict in
                 λ i. record { masks = reached_masks i; conflicts = cs i; stitches = ts i; cost = ws i; steps = es i; verdict = vs i }
 
   -- demand 3 holds of the run

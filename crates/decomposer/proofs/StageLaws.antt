@@ -10,7 +10,7 @@ use Rattle.rules.specs.declared.layer.Settings.{Settings}
 use Rattle.rules.specs.Edges.{Graph}
 use Rattle.rules.specs.Peeling.{peel}
 use Rattle.rules.specs.Components.{components}
-use Rattle.rules.specs.Decomposition.{Reached, search_all, with_returned}
+use Rattle.rules.specs.Decomposition.{Reached, search_all, with_returned, verdict_of}
 use Rattle.rules.specs.Settings.{settings_in_range}
 use Rattle.rules.proofs.Ranges.{settings_facts}
 use Rattle.adjacency.specs.Adjacency.{word_graph}
@@ -19,6 +19,7 @@ use Rattle.adjacency.specs.UnitGraph.{unit_graph, fixed_at}
 use Rattle.adjacency.proofs.MemberLaws.{in_members}
 use Rattle.units.specs.Merged.{Merged}
 use Rattle.units.proofs.UnitNeighbours.{unit_neighbours}
+use Rattle.reduction.specs.declared.peeling.Removal.{Removal}
 use Rattle.reduction.specs.Removals.{PeeledTo}
 use Rattle.reduction.specs.Returning.{Masked, Placeable, PutBack}
 use Rattle.reduction.proofs.Reduced.{peeled_placeable, peeled_masked, put_back_all}
@@ -32,8 +33,8 @@ use Rattle.decomposer.specs.Stages.{HasPlaces, HasFixed, SearchedCore, reached_o
 
 module _ (s : Settings) (in_range : settings_in_range s ≡ true) {conflicts stitches units near stitched : List ℕ} {n : ℕ}
     (mergedNear : Merged conflicts units n near) (mergedStitched : Merged stitches units n stitched)
-    {fixed all core oldVertices oldNeighbours vertices neighbours : List ℕ} {removed : ℕ}
-    (peeled : PeeledTo s.masks (word_graph near stitched) (fixed_at fixed) all core oldVertices oldNeighbours vertices neighbours removed)
+    {fixed all core : List ℕ} {removed : List Removal}
+    (peeled : PeeledTo s.masks (word_graph near stitched) (fixed_at fixed) all core removed)
     (before : List ℕ) (placed : HasPlaces all before) (known : HasFixed s.masks fixed all) {start : List ℕ} (zeros : start ≡ replicate (length before) 0) where
   -- the graph of units, and that of its words
   abbrev g : Graph
@@ -73,13 +74,13 @@ module _ (s : Settings) (in_range : settings_in_range s ≡ true) {conflicts sti
     found_places u l m = omega (arith, found_length, placed u l m)
 
     -- what was peeled may be put back
-    pub may_return : Placeable vertices neighbours found removed
+    pub may_return : Placeable removed found
     may_return = peeled_placeable peeled found_places
 
     pub may_be_joined : Masked core found
     may_be_joined = peeled_masked peeled found_places found_low
 
-    module _ {after : List ℕ} (back : PutBack s.masks near vertices neighbours removed core found after) where
+    module _ {after : List ℕ} (back : PutBack s.masks near removed core found after) where
       on_words : reached_of s g (fixed_at fixed) all (length before) ≡ stages s.masks s.weight s.budget h g (fixed_at fixed) (members_of all) (replicate (length before) 0)
       on_words = decompose_stages s.masks s.weight s.budget (fixed_at fixed) (members_of all) (replicate (length before) 0) (same_there all)
 
@@ -91,7 +92,7 @@ module _ (s : Settings) (in_range : settings_in_range s ≡ true) {conflicts sti
       pub all_decomposed : Decomposed s g (fixed_at fixed) all before after r
       all_decomposed = record {
         steps = searched.steps ∙ ap (λ (w : Reached). w.steps) searches ∙ sym (ap (λ (w : Reached). w.steps) on_words);
-        stopped = searched.stopped ∙ ap (λ (w : Reached). w.stopped) searches ∙ sym (ap (λ (w : Reached). w.stopped) on_words);
+        verdict = searched.verdict ∙ ap (λ (w : Reached). verdict_of w.stopped) searches ∙ sym (ap (λ (w : Reached). verdict_of w.stopped) on_words);
         masks = put_back_all stitched peeled back
             ∙ ap (with_returned s.masks h (peel s.masks h (fixed_at fixed) (members_of all))) (searched.masks ∙ ap (λ (w : Reached). w.masks) searches)
             ∙ sym (ap (λ (w : Reached). w.masks) on_words);

@@ -5,7 +5,7 @@ use Rattle.rules.specs.declared.layer.Settings.{Settings}
 use Rattle.rules.specs.Components.{components}
 use Rattle.rules.specs.Edges.{Graph}
 use Rattle.rules.specs.Peeling.{is_fixed}
-use Rattle.rules.specs.Decomposition.{Reached, search_all, decompose}
+use Rattle.rules.specs.Decomposition.{Reached, search_all, decompose, verdict_of}
 use Rattle.adjacency.specs.Members.{members_of}
 use Rattle.adjacency.specs.UnitGraph.{fixed_at}
 use Rattle.decomposer.specs.declared.stages.Searched.{Searched}
@@ -26,7 +26,7 @@ search_of_core s g fixed core masks = search_all s.masks s.weight s.budget g fix
 -- the core was searched
 pub record SearchedCore (s : Settings) (g : Graph) (fixed : ℕ → ℕ) (core before after : List ℕ) (r : Searched) : Type 0 where
   pub steps : r.steps ≡ (search_of_core s g fixed core before).steps
-  pub stopped : r.stopped ≡ (search_of_core s g fixed core before).stopped
+  pub verdict : r.verdict ≡ verdict_of (search_of_core s g fixed core before).stopped
   pub masks : after ≡ (search_of_core s g fixed core before).masks
 
 -- what the whole decomposition of these units reaches, by the rules, with so many masks
@@ -36,6 +36,6 @@ reached_of s g fixed all size = decompose s.masks s.weight s.budget g fixed (mem
 -- the units were decomposed, whatever the masks were before
 pub record Decomposed (s : Settings) (g : Graph) (fixed : ℕ → ℕ) (all before after : List ℕ) (r : Searched) : Type 0 where
   pub steps : r.steps ≡ (reached_of s g fixed all (length before)).steps
-  pub stopped : r.stopped ≡ (reached_of s g fixed all (length before)).stopped
+  pub verdict : r.verdict ≡ verdict_of (reached_of s g fixed all (length before)).stopped
   pub masks : after ≡ (reached_of s g fixed all (length before)).masks
   pub size : length after ≡ length before

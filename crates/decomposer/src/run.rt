@@ -1,27 +1,17 @@
 // The run on a judged layer: its units are decomposed, with the fixed masks of their pieces, each piece gets its unit's mask, and the masks are scored.
 ghost use Rattle.std.specs.Prelude.{◌≡◌, ◌≤◌, length};
 ghost use Rattle.rules.specs.Answers.{run_of};
-ghost use Rattle.rules.specs.Decomposition.{verdict_of, run};
+ghost use Rattle.rules.specs.Decomposition.{run};
 ghost use Rattle.rules.specs.Demands.{AgainstLarger};
 ghost use Rattle.rules.specs.Questions.{Valid};
 ghost use Rattle.rules.specs.Units.{spread};
-ghost use Rattle.layout.specs.Flat.{records_of};
 ghost use Rattle.adjacency.specs.UnitGraph.{unit_at};
 ghost use Rattle.theory.proofs.Merging.{Grouping};
 
 use crate::stages::decompose_units;
-use rules::{Decomposition, Piece, Settings, Verdict};
-
-// Open where a step was due beyond the budget.
-fn verdict_of(stopped: bool) -> Verdict
-    ensures { result ≡ verdict_of stopped }
-{
-    if stopped {
-        Verdict::Open
-    } else {
-        Verdict::Best
-    }
-}
+use adjacency::EdgeSets;
+use core_search::UnitGraph;
+use rules::{Decomposition, Piece, Settings};
 
 // Gives each piece its unit's mask. A unit's number is no higher than its pieces and has its own mask already.
 fn spread_masks(units: &[u16; 512], masks: &mut [u8])
@@ -29,43 +19,37 @@ fn spread_masks(units: &[u16; 512], masks: &mut [u8])
     requires grouping { Grouping (unit_at units.now) (length masks.old) }
     ensures { masks.new ≡ spread (unit_at units.now) (length masks.old) masks.old }
 {
-    let mut i = 0;
-    while i < masks.len() {
-        masks[i] = masks[units[i] as usize];
-        i += 1;
+    for i in 0..masks.len() {
+        masks[i] = masks[usize::from(units[i])];
     }
 }
 
 // The run.
-pub fn decompose(
-    settings: Settings,
-    flat: &[u32; 2560],
-    fixed: &[u8; 512],
-    n: usize,
-    masks: &mut [u8],
-) -> Decomposition
-    requires valid { Valid settings (records_of flat.now fixed.now n) }
-    requires masks_len { length masks.old ≡ n }
-    ensures masks_after { run_of result masks.new ≡ run settings (records_of flat.now fixed.now n) }
-    ensures against_larger { AgainstLarger settings (records_of flat.now fixed.now n) (run_of result masks.new) }
+pub fn decompose(settings: Settings, pieces: &[Piece], masks: &mut [u8]) -> Decomposition
+    requires valid { Valid settings pieces.now }
+    requires masks_len { length masks.old ≡ length pieces.now }
+    ensures masks_after { run_of result masks.new ≡ run settings pieces.now }
+    ensures against_larger { AgainstLarger settings pieces.now (run_of result masks.new) }
 {
-    let mut conflicts = [0u64; 4096];
-    let mut stitches = [0u64; 4096];
+    let mut edges = EdgeSets::empty();
     let mut units = [0u16; 512];
-    let all = units::layer_units(settings, flat, n, &mut conflicts, &mut stitches, &mut units);
+    let all = units::layer_units(settings, pieces, &mut edges, &mut units);
     let mut noted = [Piece::UNSET; 512];
-    let given: &[u8] = fixed;
-    units::note_masks(&units, &given[..n], &mut noted);
-    let searched = decompose_units(
-        settings, &conflicts, &stitches, &units, n, &noted, &all, masks,
-    );
+    let given = units::fixed_masks_of(pieces);
+    units::note_masks(&units, &given[..pieces.len()], &mut noted);
+    let graph = UnitGraph {
+        edges: &edges,
+        units: &units,
+        n: pieces.len(),
+    };
+    let searched = decompose_units(settings, &graph, &noted, &all, masks);
     spread_masks(&units, masks);
-    let score = counting::score_words(settings.weight, &conflicts, &stitches, n, masks);
+    let score = counting::score_edges(settings.weight, &edges, masks);
     Decomposition {
         conflicts: score.conflicts,
         stitches: score.stitches,
         cost: score.cost,
         steps: searched.steps,
-        verdict: verdict_of(searched.stopped),
+        verdict: searched.verdict,
     }
 }

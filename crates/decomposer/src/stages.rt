@@ -1,125 +1,91 @@
 // The stages on the graph of units, one call each.
-ghost use Rattle.std.specs.Prelude.{true, [], ◌∷◌, ◌≡◌, length, replicate};
+ghost use Rattle.std.specs.Prelude.{true, ◌≡◌};
+ghost use Rattle.rules.specs.Decomposition.{verdict_of};
 ghost use Rattle.rules.specs.Settings.{settings_in_range};
-ghost use Rattle.adjacency.specs.UnitGraph.{unit_graph, fixed_at};
+ghost use Rattle.adjacency.specs.UnitGraph.{fixed_at};
 ghost use Rattle.units.specs.Merged.{Merged};
-ghost use Rattle.core_search.specs.Core.{Words};
+ghost use Rattle.core_search.specs.Core.{Sound, graph_of};
 ghost use Rattle.decomposer.specs.Stages.{HasPlaces, HasFixed, SearchedCore, Decomposed};
 
-use rules::Settings;
+use adjacency::EdgeSets;
+use bitset::BitSet;
+use core_search::{Limits, Progress, UnitGraph};
+use rules::{Settings, Verdict};
 
 // What the search tells beside the masks.
-#[derive(Clone, Copy)]
+#[derive(Clone, Copy, Debug, PartialEq, Eq)]
 pub struct Searched {
     pub steps: u32,
-    pub stopped: bool,
+    pub verdict: Verdict,
 }
 
-// Puts mask 0 everywhere.
-fn clear(masks: &mut [u8])
-    ensures { masks.new ≡ replicate (length masks.old) 0 }
+// Open where a step was due beyond the budget.
+fn verdict_of(stopped: bool) -> Verdict
+    ensures { result ≡ verdict_of stopped }
 {
-    let mut i = 0;
-    while i < masks.len() {
-        masks[i] = 0;
-        i += 1;
+    if stopped {
+        Verdict::Open
+    } else {
+        Verdict::Best
     }
 }
 
-// The numbers that a search starts with.
-fn numbers_of(settings: Settings) -> [u64; 8]
-    ensures { result ≡ 0 ∷ 0 ∷ 0 ∷ settings.masks ∷ settings.weight ∷ settings.budget ∷ 0 ∷ 0 ∷ [] }
-{
-    [
-        0,
-        0,
-        0,
-        settings.masks as u64,
-        settings.weight as u64,
-        settings.budget as u64,
-        0,
-        0,
-    ]
-}
-
 // Searches the core and puts its masks down.
+#[tactic(auto, using(rules::proofs::Ranges::settings_facts))]
 fn search(
     settings: Settings,
-    conflicts: &[u64; 4096],
-    stitches: &[u64; 4096],
-    near: &[u64; 4096],
-    stitched: &[u64; 4096],
-    units: &[u16; 512],
-    n: usize,
+    graph: &UnitGraph,
+    merged: &EdgeSets,
     fixed: &[u8; 512],
-    core: &[u64; 8],
+    core: &BitSet,
     masks: &mut [u8],
 ) -> Searched
     requires settings_value { settings_in_range settings ≡ true }
-    requires words { Words conflicts.now stitches.now units.now n }
-    requires merged { Merged conflicts.now units.now n near.now }
-    requires merged_2 { Merged stitches.now units.now n stitched.now }
+    requires sound { Sound graph.now }
+    requires merged { Merged graph.now.edges.now.conflicts graph.now.units.now graph.now.n merged.now.conflicts }
+    requires merged_2 { Merged graph.now.edges.now.stitches graph.now.units.now graph.now.n merged.now.stitches }
     requires has_places { HasPlaces core.now masks.old }
     requires has_fixed { HasFixed settings.masks fixed.now core.now }
-    ensures { SearchedCore settings (unit_graph conflicts.now stitches.now units.now n) (fixed_at fixed.now) core.now masks.old masks.new result }
+    ensures { SearchedCore settings (graph_of graph.now) (fixed_at fixed.now) core.now masks.old masks.new result }
 {
-    let mut numbers = numbers_of(settings);
-    let left = core_search::search_core(
-        conflicts,
-        stitches,
-        near,
-        stitched,
-        units,
-        n,
-        fixed,
-        core,
-        &mut numbers,
-        masks,
-    );
+    let limits = Limits::from(settings);
+    let mut progress = Progress {
+        left: limits.budget,
+        stopped: false,
+    };
+    core_search::search_core(graph, merged, fixed, core, limits, &mut progress, masks);
     Searched {
-        steps: settings.budget - left as u32,
-        stopped: numbers[1] == 1,
+        steps: settings.budget - progress.left as u32,
+        verdict: verdict_of(progress.stopped),
     }
 }
 
 // Decomposes the units whose numbers are in `all`, with the fixed masks of `fixed`, and puts the mask of each down at its number.
 pub fn decompose_units(
     settings: Settings,
-    conflicts: &[u64; 4096],
-    stitches: &[u64; 4096],
-    units: &[u16; 512],
-    n: usize,
+    graph: &UnitGraph,
     fixed: &[u8; 512],
-    all: &[u64; 8],
+    all: &BitSet,
     masks: &mut [u8],
 ) -> Searched
     requires settings_value { settings_in_range settings ≡ true }
-    requires words { Words conflicts.now stitches.now units.now n }
+    requires sound { Sound graph.now }
     requires has_places { HasPlaces all.now masks.old }
     requires has_fixed { HasFixed settings.masks fixed.now all.now }
-    ensures { Decomposed settings (unit_graph conflicts.now stitches.now units.now n) (fixed_at fixed.now) all.now masks.old masks.new result }
+    ensures { Decomposed settings (graph_of graph.now) (fixed_at fixed.now) all.now masks.old masks.new result }
 {
-    let mut near = [0u64; 4096];
-    let mut stitched = [0u64; 4096];
-    units::merge_words(conflicts, units, n, &mut near);
-    units::merge_words(stitches, units, n, &mut stitched);
+    let mut merged = EdgeSets::empty();
+    units::merge_edges(graph.edges, graph.units, graph.n, &mut merged);
     let mut there = *all;
-    let mut vertices = [0u32; 512];
-    let mut neighbours = [0u32; 512];
-    let k = settings.masks;
-    let removed = reduction::peel(
-        k,
-        &near,
-        &stitched,
-        fixed,
-        &mut there,
-        &mut vertices,
-        &mut neighbours,
+    let removals = reduction::peel(settings.masks, &merged, fixed, &mut there);
+    masks.fill(0);
+    let searched = search(settings, graph, &merged, fixed, &there, masks);
+    reduction::put_back(
+        settings.masks,
+        &merged.conflicts,
+        removals.as_slice(),
+        &there,
+        masks,
     );
-    clear(masks);
-    let searched = search(
-        settings, conflicts, stitches, &near, &stitched, units, n, fixed, &there, masks,
-    );
-    reduction::put_back(k, &near, &vertices, &neighbours, removed, &there, masks);
     searched
 }
