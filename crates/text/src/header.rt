@@ -3,21 +3,63 @@ ghost use Rattle.std.specs.Prelude.{◌≡◌, ◌+◌, ◌<◌, OnOk};
 ghost use Rattle.lines.specs.Readers.{answer_as};
 ghost use Rattle.numerals.specs.Numerals.{cap};
 ghost use Rattle.rules.specs.Questions.{HeaderRead, NumberRead, read_header, read_number};
-ghost use Rattle.rules.specs.Settings.{within};
+ghost use Rattle.text.specs.Lines.{line_of};
 
 use lines::Reader;
 use rules::{Piece, Refusal, Refused, Settings, in_limits};
 
-// The next line, which is to have this key and one number in this range.
-fn read_number(reader: &mut Reader, key: &[u8], least: u32, greatest: u32) -> Result<u32, Refused>
-    requires small { greatest < cap }
+// A line with one number: its key, and the range of the number.
+#[derive(Clone, Copy)]
+struct Expected {
+    key: &'static [u8],
+    least: u32,
+    greatest: u32,
+}
+
+// The six lines in their order.
+const LINES: [Expected; 6] = [
+    Expected {
+        key: b"masks=",
+        least: Settings::MASKS_LEAST,
+        greatest: Settings::MASKS_GREATEST,
+    },
+    Expected {
+        key: b"spacing=",
+        least: Settings::SPACING_LEAST,
+        greatest: Settings::SPACING_GREATEST,
+    },
+    Expected {
+        key: b"margin=",
+        least: Settings::MARGIN_LEAST,
+        greatest: Settings::MARGIN_GREATEST,
+    },
+    Expected {
+        key: b"weight=",
+        least: Settings::WEIGHT_LEAST,
+        greatest: Settings::WEIGHT_GREATEST,
+    },
+    Expected {
+        key: b"budget=",
+        least: Settings::BUDGET_LEAST,
+        greatest: Settings::BUDGET_GREATEST,
+    },
+    Expected {
+        key: b"pieces=",
+        least: 0,
+        greatest: Piece::COUNT_GREATEST as u32,
+    },
+];
+
+// The number of the next line, which is to be this one.
+fn read_number(reader: &mut Reader, expected: &Expected) -> Result<u32, Refused>
+    requires small { expected.now.greatest < cap }
     requires room { reader.old.line < 4_294_967_295 }
-    ensures number { answer_as {B = NumberRead} (λ n. record { number = n; rest = reader.new.rest.now }) result ≡ read_number (record { key = key.now; range = within least greatest }) reader.old.line reader.old.rest.now }
+    ensures number { answer_as {B = NumberRead} (λ n. record { number = n; rest = reader.new.rest.now }) result ≡ read_number (line_of expected.now) reader.old.line reader.old.rest.now }
     ensures line { OnOk result (reader.new.line ≡ reader.old.line + 1) }
 {
     let place = reader.place();
-    let [number] = reader.next_line::<1>(key)?;
-    if !in_limits(least, greatest, number) {
+    let [number] = reader.next_line::<1>(expected.key)?;
+    if !in_limits(expected.least, expected.greatest, number) {
         return Err(Refusal::Range.at(place));
     }
     Ok(number)
@@ -35,37 +77,11 @@ pub fn read_header(reader: &mut Reader) -> Result<Header, Refused>
     ensures header { answer_as {B = HeaderRead} (λ h. record { settings = h.settings; count = h.count; rest = reader.new.rest.now }) result ≡ read_header reader.old.rest.now }
     ensures line { OnOk result (reader.new.line ≡ 7) }
 {
-    let masks = read_number(
-        reader,
-        b"masks=",
-        Settings::MASKS_LEAST,
-        Settings::MASKS_GREATEST,
-    )?;
-    let spacing = read_number(
-        reader,
-        b"spacing=",
-        Settings::SPACING_LEAST,
-        Settings::SPACING_GREATEST,
-    )?;
-    let margin = read_number(
-        reader,
-        b"margin=",
-        Settings::MARGIN_LEAST,
-        Settings::MARGIN_GREATEST,
-    )?;
-    let weight = read_number(
-        reader,
-        b"weight=",
-        Settings::WEIGHT_LEAST,
-        Settings::WEIGHT_GREATEST,
-    )?;
-    let budget = read_number(
-        reader,
-        b"budget=",
-        Settings::BUDGET_LEAST,
-        Settings::BUDGET_GREATEST,
-    )?;
-    let count = read_number(reader, b"pieces=", 0, Piece::COUNT_GREATEST as u32)?;
+    let mut numbers = [0; 6];
+    for (i, expected) in LINES.iter().enumerate() {
+        numbers[i] = read_number(reader, expected)?;
+    }
+    let [masks, spacing, margin, weight, budget, count] = numbers;
     let settings = Settings {
         masks,
         spacing,

@@ -7,13 +7,13 @@ use Rattle.text.proofs.header.read_number.Goals as goal
 pub returns-in_err-number-clause-number : goal.returns-in_err-number-clause-number
 returns-in_err-number-clause-number c =
     let p = err_from_is_err_and c.from_residual.result c.from_residual.ensures.1 in
-    rw (p.1, p.2) (number_form _ _ c.args.least c.args.greatest _ _ _ c.in_err-number.ensures.read)
+    rw (p.1, p.2) (number_form _ _ c.args.expected.now.least c.args.expected.now.greatest _ _ _ c.in_err-number.ensures.read)
 
 pub returns-then-not-in_limits-clause-number : goal.returns-then-not-in_limits-clause-number
 returns-then-not-in_limits-clause-number c =
     rw (c.at.ensures, c.place-place.ensures)
-    (number_out _ _ c.args.least c.args.greatest _ c.requires.small _ _ c.in_ok-number.ensures.read (sym c.in_limits.ensures ∙ c.if-not-in_limits.true))
+    (number_out _ _ c.args.expected.now.least c.args.expected.now.greatest _ c.requires.small _ _ c.in_ok-number.ensures.read (sym c.in_limits.ensures ∙ c.if-not-in_limits.true))
 
 pub returns-clause-number : goal.returns-clause-number
 returns-clause-number c =
-    number_in _ _ c.args.least c.args.greatest _ c.requires.small _ _ c.in_ok-number.ensures.read (sym c.in_limits.ensures ∙ c.if-not-in_limits.false)
+    number_in _ _ c.args.expected.now.least c.args.expected.now.greatest _ c.requires.small _ _ c.in_ok-number.ensures.read (sym c.in_limits.ensures ∙ c.if-not-in_limits.false)
