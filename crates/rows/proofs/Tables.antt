@@ -1,5 +1,5 @@
 -- The table of a weight, made row by row. Assumes nothing.
-use mathlib.Core.Bool.{Bool, false, ◌&&◌, and-false}
+use mathlib.Core.Bool.{Bool, ◌&&◌, and-false}
 use mathlib.Core.List.{List, []}
 use mathlib.Core.Logic.{by_cases}
 use mathlib.Core.Path.{◌≡◌, refl, sym, ap, subst⁻¹, ◌∙◌}

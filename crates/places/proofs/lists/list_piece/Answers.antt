@@ -1,7 +1,5 @@
 use native.Mathlib.Omega.{arith}
-use mathlib.Core.Path.{◌≡◌}
-use Rattle.places.specs.Storing.{Stored, piece_entries}
-use Rattle.places.proofs.Neighbours.{seats_of, piece_begun, piece_room, piece_next, piece_all}
+use Rattle.places.proofs.Neighbours.{piece_begun, piece_room, piece_next, piece_all}
 use Rattle.places.proofs.lists.list_piece.Goals as goal
 
 pub loop-q-init : goal.loop-q-init

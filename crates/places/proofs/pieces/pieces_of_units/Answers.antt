@@ -1,5 +1,4 @@
 use native.Mathlib.Omega.{arith}
-use mathlib.Core.List.{List}
 use mathlib.Core.Path.{◌≡◌, subst, subst⁻¹, ◌∙◌}
 use Prim.Native.Nat.{ℕ, ◌<◌}
 use lib.ListN.{length, take}

@@ -3,7 +3,7 @@ use native.Mathlib.Nat.{mul-le-mul}
 use mathlib.Core.Path.{ap, subst, ◌∙◌}
 use Prim.Native.Nat.{ℕ, ◌+◌, ◌*◌, ◌≤◌, ◌<◌}
 use lib.Dec.{eqb}
-use lib.ListN.{length, get_or}
+use lib.ListN.{get_or}
 use Rattle.places.specs.Local.{on_mask}
 use Rattle.rows.specs.Weights.{Weighing, Weights}
 use Rattle.rows.proofs.Rows.{on_none, on_small, row_more, given_most}
