@@ -1,7 +1,7 @@
 use native.Mathlib.Omega.{arith}
 use mathlib.Core.Bool.{false, not}
 use mathlib.Core.Path.{◌≡◌, sym, ap, ◌∙◌}
-use Prim.Native.Nat.{ℕ, ◌≤◌, ◌<◌}
+use Prim.Native.Nat.{ℕ}
 use lib.Dec.{ltb}
 use lib.ListN.{length}
 use borrow.Author.Count.{below_more}
@@ -9,7 +9,7 @@ use borrow.Author.Tests.{eqb-true, eqb-false, lt-ltb, le-ltb}
 use Rattle.rules.specs.Basics.{up_to}
 use Rattle.rules.specs.Library.{unlisted}
 use Rattle.rules.proofs.Lists.{any_found, out_any, in_up_to}
-use Rattle.places.specs.Local.{stitches_at, end_at, list_graph}
+use Rattle.places.specs.Local.{list_graph}
 use Rattle.early_end.proofs.Listed.{stitched, unstitched}
 use Rattle.early_end.proofs.listed_edges.place_listed.Goals as goal
 use Rattle.early_end.proofs.listed_edges.place_listed.Goals.{At-loop-u}
