@@ -1,8 +1,8 @@
 // The edges of a component's places, counted in their lists of earlier neighbours, and whether the library lists them.
-ghost use Rattle.std.specs.Prelude.{not, ◌≡◌, ℕ, ◌≤◌, ◌<◌, ltb, length};
+ghost use Rattle.std.specs.Prelude.{not, ◌≡◌, ℕ, ◌≤◌, ◌<◌, length};
 ghost use Rattle.rules.specs.Basics.{up_to, any_of};
 ghost use Rattle.rules.specs.Library.{edges_below, pair_edges, unlisted_at};
-ghost use Rattle.places.specs.Local.{times_in, stitches_at, end_at, list_graph, PlaceLists};
+ghost use Rattle.places.specs.Local.{times_in, list_graph, PlaceLists};
 
 use places::Lists;
 

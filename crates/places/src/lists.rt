@@ -13,7 +13,7 @@ use adjacency::EdgeSets;
 use bitset::{BitSet, Matrix};
 
 // The earlier neighbours of each place, one after the other, and where they start: those of place k in conflict at 2 k, its stitch neighbours
-// at 2 k + 1, and the next place's at 2 k + 2. It is large, so it is made once, and lent.
+// at 2 k + 1, and the next place's at 2 k + 2. The memory is fixed, and large, so it is made once, and lent.
 #[derive(Drop)]
 pub struct Lists {
     pub starts: [u32; 1025],
@@ -41,7 +41,8 @@ impl Lists {
         &self.entries[self.starts[2 * k + 1] as usize..self.starts[2 * k + 2] as usize]
     }
 
-    // Lays out the places, whose units are those of `order`. A unit's pieces are those below n that `units` gives it.
+    // Lays out the places, whose units are those of `order`. A unit's pieces are those below n that `units` gives it: the graph of units is one of an
+    // array and a length, so both are passed.
     pub fn lay_out(&mut self, edges: &EdgeSets, units: &[u16; 512], n: usize, order: &[u16])
         requires size_bound { (length order.now ≤ 512) × (n ≤ 512) }
         requires by_index { (i : ℕ) → i < length order.now → get_or order.now i 0 < 512 }

@@ -1,4 +1,7 @@
 // The weight as a table, so that it is added to the costs of all eight masks at once, which needs no branch and no index into the costs.
+ghost use Rattle.std.specs.Prelude.{◌≡◌, ◌≤◌, ◌<◌, length, get_or, take};
+ghost use Rattle.rules.specs.Settings.{unset};
+
 use std::marker::Model;
 
 // What is given for the whole search of a component: row h of `weights` has the weight at mask h and nothing elsewhere, and `fixed` has the fixed
@@ -18,9 +21,6 @@ impl Model for Table {
 
     ghost invariant = { λ t. Weights t.weights (weight_of t.weights) };
 }
-
-ghost use Rattle.std.specs.Prelude.{◌≡◌, ◌≤◌, ◌<◌, length, get_or, take};
-ghost use Rattle.rules.specs.Settings.{unset};
 
 impl Table {
     // The table of a weight and of the fixed masks of the places.
