@@ -1,7 +1,7 @@
 -- The test of five points, with coordinates that are read without their sign. Assumes nothing.
 use mathlib.Core.Bool.{Bool, true, false, not, ◌&&◌, ◌||◌}
 use mathlib.Core.List.{List}
-use mathlib.Core.Path.{◌≡◌, refl, sym, ◌∙◌}
+use mathlib.Core.Path.{◌≡◌, refl, ◌∙◌}
 use Prim.Native.Nat.{ℕ, ◌+◌, ◌<◌}
 use native.Mathlib.Omega.{arith}
 use lib.Dec.{eqb}
@@ -12,7 +12,7 @@ use borrow.Author.Tests.{eq-eqb, ne_eqb}
 use Rattle.rules.specs.Stream as rules
 use Rattle.rules.specs.Stream.{word32, signed32, is_rectangle}
 use Rattle.gds_data.specs.declared.rectangle.Point.{Point}
-use Rattle.gds_data.specs.Rectangles.{point_from}
+use Rattle.gds_data.specs.Rectangles.{word_point}
 use Rattle.gds_data.proofs.SignedWords.{same_words}
 
 abbrev equal : Point → Point → Bool
@@ -38,7 +38,7 @@ module _ (bytes : List ℕ) (small : (k : ℕ) → Fits w8 (get_or bytes k 0)) w
   words : (i j : ℕ) → rules.same (signed32 (word32 bytes i)) (signed32 (word32 bytes j)) ≡ eqb (word32 bytes i) (word32 bytes j)
   words i j = same_words (word32 bytes i) (word32 bytes j) (fits i) (fits j)
 
-  module _ (a b c d e : Point) (ea : a ≡ point_from bytes 0) (eb : b ≡ point_from bytes 1) (ec : c ≡ point_from bytes 2) (ed : d ≡ point_from bytes 3) (ee : e ≡ point_from bytes 4) where
+  module _ (a b c d e : Point) (ea : a ≡ word_point bytes 0) (eb : b ≡ word_point bytes 1) (ec : c ≡ word_point bytes 2) (ed : d ≡ word_point bytes 3) (ee : e ≡ word_point bytes 4) where
     abbrev sides : Bool
     sides = not (eqb a.x c.x) && not (eqb a.y c.y)
 
@@ -59,11 +59,11 @@ module _ (bytes : List ℕ) (small : (k : ℕ) → Fits w8 (get_or bytes k 0)) w
     pub of_corners : (a.x ≡ c.x → ⊥) → (a.y ≡ c.y → ⊥) → is_rectangle bytes ≡ (one && closed || other && closed)
     of_corners wide high = whole ∙ rw (ne_eqb a.x c.x wide, ne_eqb a.y c.y high)
 
-    pub no_width : a.x ≡ c.x → not (eqb a.x c.x) ≡ is_rectangle bytes
-    no_width h = rw (whole, eq-eqb a.x c.x h)
+    pub no_width : a.x ≡ c.x → is_rectangle bytes ≡ false
+    no_width h = whole ∙ rw (eq-eqb a.x c.x h)
 
-    pub no_height : a.y ≡ c.y → not (eqb a.y c.y) ≡ is_rectangle bytes
-    no_height h = rw (whole, eq-eqb a.y c.y h) (sym (none (not (eqb a.x c.x)) (one && closed || other && closed)))
+    pub no_height : a.y ≡ c.y → is_rectangle bytes ≡ false
+    no_height h = whole ∙ rw (eq-eqb a.y c.y h) (none (not (eqb a.x c.x)) (one && closed || other && closed))
       where
         none : (s t : Bool) → (s && false && t) ≡ false
         none true t = refl

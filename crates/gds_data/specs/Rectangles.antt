@@ -5,8 +5,8 @@ use Rattle.rules.specs.Settings.{unset}
 use Rattle.rules.specs.Stream.{word32}
 use Rattle.gds_data.specs.declared.rectangle.Point.{Point}
 
-abbrev pub point_from : List ℕ → ℕ → Point
-point_from bytes i = record { x = word32 bytes (8 * i); y = word32 bytes (8 * i + 4) }
+abbrev pub word_point : List ℕ → ℕ → Point
+word_point bytes i = record { x = word32 bytes (8 * i); y = word32 bytes (8 * i + 4) }
 
 abbrev pub corner_piece : List ℕ → ℕ → Piece
 corner_piece bytes shape = record {

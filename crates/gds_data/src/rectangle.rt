@@ -2,7 +2,7 @@
 // their sign: equal ones stay equal, and a negative one lies above every range.
 ghost use Rattle.std.specs.Prelude.{◌≡◌, ◌+◌, ◌*◌, ◌≤◌, length};
 ghost use Rattle.rules.specs.Stream.{is_rectangle};
-ghost use Rattle.gds_data.specs.Rectangles.{point_from, corner_piece};
+ghost use Rattle.gds_data.specs.Rectangles.{word_point, corner_piece};
 
 use crate::words::word32;
 use rules::Piece;
@@ -16,7 +16,7 @@ struct Point {
 // The point with this number, from 0.
 fn point_at(bytes: &[u8], i: usize) -> Point
     requires { 8 * i + 8 ≤ length bytes.now }
-    ensures { result ≡ point_from bytes.now i }
+    ensures { result ≡ word_point bytes.now i }
 {
     Point {
         x: word32(bytes, 8 * i),
@@ -25,6 +25,7 @@ fn point_at(bytes: &[u8], i: usize) -> Point
 }
 
 // The first point and the third are opposite corners; the others are at the other two, either way round, and at the first again.
+#[tactic(auto, using(crate::proofs::RectangleLaws::of_corners, crate::proofs::RectangleLaws::no_width, crate::proofs::RectangleLaws::no_height))]
 pub fn is_rectangle(bytes: &[u8]) -> bool
     requires { length bytes.now ≡ 40 }
     ensures { result ≡ is_rectangle bytes.now }
@@ -36,7 +37,10 @@ pub fn is_rectangle(bytes: &[u8]) -> bool
     let e = point_at(bytes, 4);
     let p = Point { x: a.x, y: c.y };
     let q = Point { x: c.x, y: a.y };
-    a.x != c.x && a.y != c.y && ((b, d, e) == (p, q, a) || (b, d, e) == (q, p, a))
+    if a.x == c.x || a.y == c.y {
+        return false;
+    }
+    (b, d, e) == (p, q, a) || (b, d, e) == (q, p, a)
 }
 
 // The piece between the first point and the third. A stream fixes no masks.

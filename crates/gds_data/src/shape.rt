@@ -8,6 +8,7 @@ ghost use Rattle.gds_data.specs.Shapes.{shape_of};
 use numerals::read_numeral;
 
 // The bytes without a zero byte at the end.
+#[tactic(auto, using(crate::proofs::ShapeLaws::none_filled, crate::proofs::ShapeLaws::one_filled, crate::proofs::ShapeLaws::not_filled))]
 fn unfilled(bytes: &[u8]) -> &[u8]
     ensures { result.now ≡ unfilled bytes.now }
 {
@@ -18,6 +19,7 @@ fn unfilled(bytes: &[u8]) -> &[u8]
 }
 
 // The shape number that the bytes state, up to the cap.
+#[tactic(auto, using(crate::proofs::ShapeLaws::no_numeral, crate::proofs::ShapeLaws::shape_told), unfolding(crate::specs::Shapes::shape_of))]
 fn read_shape(bytes: &[u8]) -> Option<u32>
     ensures { result ≡ shape_of bytes.now }
 {
@@ -27,6 +29,7 @@ fn read_shape(bytes: &[u8]) -> Option<u32>
 }
 
 // Whether the bytes state one.
+#[tactic(auto, using(crate::proofs::ShapeLaws::told), unfolding(crate::specs::Shapes::shape_of))]
 pub fn is_shape(bytes: &[u8]) -> bool
     ensures { result ≡ is_numeral (unfilled bytes.now) }
 {
@@ -34,6 +37,7 @@ pub fn is_shape(bytes: &[u8]) -> bool
 }
 
 // The number of bytes that state one.
+#[tactic(auto, unfolding(crate::specs::Shapes::shape_of))]
 pub fn shape_number(bytes: &[u8]) -> u32
     requires { is_numeral (unfilled bytes.now) ≡ true }
     ensures { result ≡ min (value (unfilled bytes.now)) cap }

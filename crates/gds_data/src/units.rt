@@ -29,6 +29,7 @@ fn fraction(bytes: &[u8]) -> u64
 }
 
 // Whether the second real is a nanometre. From 128 on the first byte has a sign, and below 57 every fraction is too small.
+#[tactic(auto, using(crate::proofs::UnitLaws::nanometre, crate::proofs::UnitLaws::signed, crate::proofs::UnitLaws::too_small))]
 pub fn is_nanometre(bytes: &[u8]) -> bool
     requires { length bytes.now ≡ 16 }
     ensures { result ≡ is_nanometre (real_at bytes.now 8) }

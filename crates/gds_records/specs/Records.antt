@@ -6,6 +6,7 @@ use Rattle.rules.specs.Answers.{refusal_of}
 use Rattle.rules.specs.Questions.{Outcome, done}
 use Rattle.rules.specs.Stream.{is_due, record_of, read_record, pass_records}
 use Rattle.gds_records.specs.declared.kinds.Kind.{Kind}
+use Rattle.gds_records.specs.declared.records.Record.{Record}
 use Rattle.gds_records.specs.Kinds.{due_of}
 
 -- a value of which a fact holds, or the refusal that the rules come to
@@ -32,8 +33,12 @@ pub record Whole (kind : Kind) (k : ℕ) (bytes part rest : List ℕ) : Type 0 w
   pub room : Room kind (length part)
   pub parts : 4 + length part + length rest ≡ length bytes
 
-abbrev pub RecordTold : Kind → ℕ → List ℕ → List ℕ → Result (Bor (List ℕ)) Refused → Type 0
-RecordTold kind k bytes rest = Told (read_record (due_of kind) k bytes) λ part. Whole kind k bytes part.now rest
+abbrev pub RecordTold : Kind → ℕ → List ℕ → Result Record Refused → Type 0
+RecordTold kind k bytes = Told (read_record (due_of kind) k bytes) λ r. Whole kind k bytes r.bytes.now r.rest.now
+
+-- by a reader, which has the bytes after it then
+abbrev pub ReadTold : Kind → ℕ → List ℕ → List ℕ → Result (Bor (List ℕ)) Refused → Type 0
+ReadTold kind k bytes rest = Told (read_record (due_of kind) k bytes) λ part. Whole kind k bytes part.now rest
 
 -- the records were passed, and have a byte each at least
 pub record Passed (kinds : List Kind) (k : ℕ) (bytes rest : List ℕ) : Type 0 where

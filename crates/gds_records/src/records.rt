@@ -1,9 +1,8 @@
-// Records: the one that is due, and several one after the other.
-ghost use Rattle.std.specs.Prelude.{false, ◌≡◌, ◌+◌, ◌≤◌, length, MatchOption, OnErr, OnOk};
-ghost use Rattle.rules.specs.declared.refusal.Place.{Place};
+// One record: the one that is due, with its data judged.
+ghost use Rattle.std.specs.Prelude.{false, ◌≡◌, length, MatchOption};
 ghost use Rattle.rules.specs.Stream.{is_due};
 ghost use Rattle.gds_records.specs.Kinds.{due_of};
-ghost use Rattle.gds_records.specs.Records.{Room, Due, RecordTold, PassTold};
+ghost use Rattle.gds_records.specs.Records.{Room, Due, RecordTold};
 
 use crate::kinds::Kind;
 use gds_data::{is_nanometre, is_rectangle, is_shape, word16};
@@ -11,9 +10,9 @@ use rules::{Place, Refusal, Refused};
 
 // The data of a record, and the bytes after it.
 #[derive(Clone, Copy)]
-struct Record<'a> {
-    bytes: &'a [u8],
-    rest: &'a [u8],
+pub struct Record<'a> {
+    pub bytes: &'a [u8],
+    pub rest: &'a [u8],
 }
 
 // The record that the bytes start with, if it is whole and of this kind.
@@ -21,10 +20,10 @@ struct Record<'a> {
 fn due_record(bytes: &[u8], kind: Kind) -> Option<Record<'_>>
     ensures { MatchOption result (is_due (due_of kind) bytes.now ≡ false) (λ r. Due kind bytes.now r.bytes.now r.rest.now) }
 {
-    let [high, low, record_type, data_type, ..] = bytes else {
+    let &[high, low, record_type, data_type, ..] = bytes else {
         return None;
     };
-    let size = usize::from(u16::from_be_bytes([*high, *low]));
+    let size = usize::from(u16::from_be_bytes([high, low]));
     let form = kind.form();
     let least = 4 + usize::from(form.least);
     let greatest = 4 + usize::from(form.greatest);
@@ -32,8 +31,8 @@ fn due_record(bytes: &[u8], kind: Kind) -> Option<Record<'_>>
         && least <= size
         && size <= greatest
         && size % 2 == 0
-        && *record_type == form.record_type
-        && *data_type == form.data_type
+        && record_type == form.record_type
+        && data_type == form.data_type
     {
         Some(Record {
             bytes: &bytes[4..size],
@@ -58,55 +57,22 @@ fn is_right(bytes: &[u8], kind: Kind) -> bool
     }
 }
 
-// The records of a stream from one of them on: its number, from 1, and the bytes that are left. Each record has a byte at least.
-#[derive(Clone, Copy)]
-pub struct Records<'a> {
-    pub number: u32,
-    pub rest: &'a [u8],
-    ghost room: { number + length rest.now ≤ 4_294_967_295 },
+// Whether the bytes start with a whole record of this kind.
+pub fn is_due(bytes: &[u8], kind: Kind) -> bool
+    ensures { result ≡ is_due (due_of kind) bytes.now }
+{
+    due_record(bytes, kind).is_some()
 }
 
-impl<'a> Records<'a> {
-    // Where the next record stands.
-    pub fn place(&self) -> Place
-        ensures { result ≡ Place.Record self.now.number }
-    {
-        Place::Record(self.number)
+// The record that the bytes start with, which is to be of this kind and is record k.
+#[tactic(auto, unfolding(rules::specs::Stream::read_record))]
+pub fn read_record(bytes: &[u8], kind: Kind, k: u32) -> Result<Record<'_>, Refused>
+    ensures { RecordTold kind k bytes.now result }
+{
+    let place = Place::Record(k);
+    let record = due_record(bytes, kind).ok_or(Refusal::Record.at(place))?;
+    if !is_right(record.bytes, kind) {
+        return Err(kind.refusal().at(place));
     }
-
-    // Whether the next record is whole and of this kind.
-    pub fn is_due(&self, kind: Kind) -> bool
-        ensures { result ≡ is_due (due_of kind) self.now.rest.now }
-    {
-        due_record(self.rest, kind).is_some()
-    }
-
-    // The data of the next record, which is to be of this kind.
-    #[tactic(auto, unfolding(rules::specs::Stream::read_record))]
-    pub fn read(&mut self, kind: Kind) -> Result<&'a [u8], Refused>
-        ensures record { RecordTold kind self.old.number self.old.rest.now self.new.rest.now result }
-        ensures number { OnOk result (self.new.number ≡ self.old.number + 1) }
-        ensures refused { OnErr result (self.new ≡ self.old) }
-    {
-        let Some(record) = due_record(self.rest, kind) else {
-            return Err(Refusal::Record.at(self.place()));
-        };
-        if !is_right(record.bytes, kind) {
-            return Err(kind.refusal().at(self.place()));
-        }
-        self.number += 1;
-        self.rest = record.rest;
-        Ok(record.bytes)
-    }
-
-    // Passes the next records, which are to be of these kinds. After a refusal it is not said how far it has come.
-    pub fn pass(&mut self, kinds: &[Kind]) -> Result<(), Refused>
-        ensures records { PassTold kinds.now self.old.number self.old.rest.now self.new.rest.now result }
-        ensures number { OnOk result (self.new.number ≡ self.old.number + length kinds.now) }
-    {
-        for kind in kinds {
-            self.read(*kind)?;
-        }
-        Ok(())
-    }
+    Ok(record)
 }

@@ -7,6 +7,7 @@ use gds_elements::{Elements, read_elements};
 use gds_records::{Kind, Records};
 use rules::{Refusal, Refused};
 
+// The records before the elements.
 const FRONT: [Kind; 6] = [
     Kind::Header,
     Kind::Bgnlib,
@@ -30,8 +31,8 @@ pub fn read_stream_elements(stream: &[u8]) -> Result<Elements, Refused>
     ensures { ElementsTold stream.now result }
 {
     let mut records = Records {
-        number: 1,
         rest: stream,
+        number: 1,
     };
     records.pass(&FRONT)?;
     let elements = read_elements(&mut records)?;

@@ -2,7 +2,7 @@
 use Rattle.std.proofs.Common.{◌≡◌, ◌+◌, ◌≤◌, map, length, drop}
 use Rattle.rules.specs.Stream.{pass_records}
 use Rattle.gds_records.specs.Kinds.{due_of}
-use Rattle.gds_records.proofs.records.Records.pass.Given as goal
+use Rattle.gds_records.proofs.reader.Records.pass.Given as goal
 
 abbrev pub invariant-loop-kind : goal.invariant-loop-kind
 invariant-loop-kind l = record {
