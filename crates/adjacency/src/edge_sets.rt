@@ -11,7 +11,7 @@ use crate::reach::Reach;
 use bitset::Matrix;
 use rules::{Edge, Piece, Settings};
 
-// The edges of both kinds.
+// The edges of both kinds. They take 64 KB of stack, so what fills them is lent them, and none is copied.
 #[derive(Drop)]
 pub struct EdgeSets {
     pub conflicts: Matrix,
