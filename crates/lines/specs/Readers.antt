@@ -1,5 +1,5 @@
 -- What a reader of lines answers, by the definitions of the rules. Numbers are read up to the cap.
-use Rattle.std.specs.Prelude.{List, ℕ, Result, Ok, Err}
+use Rattle.std.specs.Prelude.{Result, Ok, Err}
 use Rattle.rules.specs.declared.refusal.Refused.{Refused}
 use Rattle.rules.specs.Answers.{refusal_of}
 use Rattle.rules.specs.Lines.{NumbersRead}
