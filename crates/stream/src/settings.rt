@@ -3,7 +3,6 @@ ghost use Rattle.std.specs.Prelude.{◌≡◌};
 ghost use Rattle.rules.specs.Answers.{answer_of};
 ghost use Rattle.rules.specs.Stream.{read_settings};
 
-use lines::Reader;
 use rules::{Place, Refusal, Refused, Settings};
 use text::read_header;
 
@@ -12,12 +11,11 @@ use text::read_header;
 pub fn read_settings(text: &[u8]) -> Result<Settings, Refused>
     ensures { answer_of result ≡ read_settings text.now }
 {
-    let mut reader = Reader::new(text);
-    let header = read_header(&mut reader)?;
+    let header = read_header(text)?;
     if header.count != 0 {
         return Err(Refusal::Range.at(Place::Line(6)));
     }
-    if !reader.rest.is_empty() {
+    if !header.after.rest.is_empty() {
         return Err(Refusal::Form.at(Place::Line(7)));
     }
     Ok(header.settings)

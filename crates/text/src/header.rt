@@ -1,5 +1,5 @@
-// The six lines before the pieces: the settings and the number of pieces. After a refusal it is not said how far the reader has come.
-ghost use Rattle.std.specs.Prelude.{◌≡◌, ◌+◌, ◌<◌, OnOk};
+// The six lines before the pieces: the settings and the number of pieces.
+ghost use Rattle.std.specs.Prelude.{◌≡◌, ◌+◌, ◌<◌, IfOk, OnOk};
 ghost use Rattle.lines.specs.Readers.{answer_as};
 ghost use Rattle.numerals.specs.Numerals.{cap};
 ghost use Rattle.rules.specs.Questions.{HeaderRead, NumberRead, read_header, read_number};
@@ -65,21 +65,23 @@ fn read_number(reader: &mut Reader, expected: &Expected) -> Result<u32, Refused>
     Ok(number)
 }
 
-// The settings and the number of pieces.
+// The settings and the number of pieces, and the text after the six lines.
 #[derive(Clone, Copy)]
-pub struct Header {
+pub struct Header<'a> {
     pub settings: Settings,
     pub count: usize,
+    pub after: Reader<'a>,
 }
 
-pub fn read_header(reader: &mut Reader) -> Result<Header, Refused>
-    requires { reader.old.line ≡ 1 }
-    ensures header { answer_as {B = HeaderRead} (λ h. record { settings = h.settings; count = h.count; rest = reader.new.rest.now }) result ≡ read_header reader.old.rest.now }
-    ensures line { OnOk result (reader.new.line ≡ 7) }
+// The six lines that a text begins with.
+pub fn read_header(text: &[u8]) -> Result<Header<'_>, Refused>
+    ensures header { answer_as {B = HeaderRead} (λ h. record { settings = h.settings; count = h.count; rest = h.after.rest.now }) result ≡ read_header text.now }
+    ensures line { IfOk result (λ h. h.after.line ≡ 7) }
 {
+    let mut reader = Reader::new(text);
     let mut numbers = [0; 6];
     for (i, expected) in LINES.iter().enumerate() {
-        numbers[i] = read_number(reader, expected)?;
+        numbers[i] = read_number(&mut reader, expected)?;
     }
     let [masks, spacing, margin, weight, budget, count] = numbers;
     let settings = Settings {
@@ -92,5 +94,6 @@ pub fn read_header(reader: &mut Reader) -> Result<Header, Refused>
     Ok(Header {
         settings,
         count: count as usize,
+        after: reader,
     })
 }

@@ -6,7 +6,6 @@ ghost use Rattle.rules.specs.Questions.{layer_from, read_layer};
 ghost use Rattle.text.specs.Layers.{layer_of};
 
 use crate::header::read_header;
-use lines::Reader;
 use piece_lines::{Pieces, read_all_fixed, read_pieces};
 use rules::{LayerRead, Place, Refusal, Refused, Settings};
 
@@ -36,8 +35,8 @@ fn read(text: &[u8]) -> Result<Layer, Refused>
     if 32_768 < text.len() {
         return Err(Refusal::TextSize.at(Place::Nothing));
     }
-    let mut reader = Reader::new(text);
-    let header = read_header(&mut reader)?;
+    let header = read_header(text)?;
+    let mut reader = header.after;
     let pieces = read_pieces(&mut reader, header.count)?;
     let pieces = read_all_fixed(&mut reader, header.settings.masks, pieces)?;
     judge(header.settings, pieces)

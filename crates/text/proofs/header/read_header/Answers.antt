@@ -6,7 +6,7 @@ use Rattle.text.proofs.header.read_header.Goals as goal
 
 pub loop-i-init : goal.loop-i-init
 unfolding ascii
-loop-i-init c = record { lines = record { six = refl }; line = c.requires; room = refl; read = read_start _ }
+loop-i-init c = rw c.new-reader.ensures.rest (record { lines = record { six = refl }; line = c.new-reader.ensures.line; room = refl; read = read_start _ })
 
 pub loop-i-preserved : goal.loop-i-preserved
 loop-i-preserved c =

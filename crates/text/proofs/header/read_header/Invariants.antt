@@ -10,5 +10,5 @@ invariant-loop-i l =
       lines : SixLines l.expected-items;
       line : l.reader.line ≡ l.i + 1;
       room : length l.numbers ≡ 6;
-      read : Read l.initial.reader.rest.now (take l.i l.numbers) (drop l.i header_lines) (l.i + 1) l.reader.rest.now;
+      read : Read l.fn.text (take l.i l.numbers) (drop l.i header_lines) (l.i + 1) l.reader.rest.now;
     }
