@@ -28,14 +28,6 @@ pub record Laid (g : Graph) (starts list : List ℕ) (end k : ℕ) : Type 0 wher
   pub here : get_or starts (2 * k) 0 ≡ end
   pub place : (j : ℕ) → j < k → PlaceAt g starts list end j
 
-pub laid_none : (g : Graph) (starts list : List ℕ) → length starts ≡ 1025 → length list ≡ 131_584 → Laid g (set starts 0 0) list 0 0
-laid_none g starts list long whole = record {
-  long = simp length-set long;
-  whole = whole;
-  here = get_or-set_same starts 0 0 0 (omega arith);
-  place = λ j h. absurd (omega arith);
-}
-
 -- a place's lists stay, where their bounds and entries do
 place_same : {g : Graph} {starts starts' list list' : List ℕ} {end end' j : ℕ} → PlaceAt g starts list end j
     → conflicts_at starts' j ≡ conflicts_at starts j → stitches_at starts' j ≡ stitches_at starts j → end_at starts' j ≡ end_at starts j

@@ -9,11 +9,11 @@ use lib.Dec.{eqb}
 use lib.ListN.{length, get_or, set, length-set}
 use lib.Seq.{get_or-set_same, get_or-set_other}
 use borrow.Author.Tests.{eqb-true, eqb-false, eq-eqb, ne_eqb}
-use Rattle.bitset.specs.Bits.{member, Empty, Taken}
+use Rattle.bitset.specs.Bits.{member, Taken}
 use Rattle.rules.specs.Basics.{any_of, occurs}
 use Rattle.rules.specs.Units.{merged_into}
 use Rattle.rules.proofs.Lists.{any_snoc, occurs_in, occurs_out}
-use Rattle.rules.proofs.Tests.{by_test, clash, both, same, lt_or_ge}
+use Rattle.rules.proofs.Tests.{by_test, both, same, lt_or_ge}
 use Rattle.adjacency.specs.Members.{members_of}
 use Rattle.adjacency.specs.UnitGraph.{unit_at}
 use Rattle.theory.proofs.Merging.{member_in, in_member}
@@ -63,13 +63,6 @@ pub record Placed (units : List ℕ) (n : ℕ) (order : List ℕ) (k : ℕ) (s s
   pub inside : (q : ℕ) → member s q ≡ true → (q < n) × (get_or seats q 0 < k) × (unit_at units q ≡ get_or order (get_or seats q 0) 0)
   pub there : (q i : ℕ) → q < n → i < k → unit_at units q ≡ get_or order i 0 → (member s q ≡ true) × (get_or seats q 0 ≡ i)
   pub whole : length seats ≡ 512
-
-pub placed_none : (units : List ℕ) (n : ℕ) (order s seats : List ℕ) → Empty s → length seats ≡ 512 → Placed units n order 0 s seats
-placed_none units n order s seats e w = record {
-  inside = λ q m. clash m (e.none q);
-  there = λ q i l h. absurd (omega arith);
-  whole = w;
-}
 
 -- whether a piece is one of the unit's
 pub piece_of_lem : (units : List ℕ) (n u q : ℕ) → q < n → occurs q (merged_into (unit_at units) n u) ≡ eqb (unit_at units q) u

@@ -5,21 +5,19 @@ use Prim.Native.Nat.{ℕ, ◌+◌, ◌*◌, ◌≤◌, ◌<◌}
 use native.Mathlib.Nat.{mul-le-mul}
 use native.Mathlib.Omega.{arith}
 use lib.ListN.{length, get_or, set}
-use Rattle.bitset.specs.Bits.{member, Empty}
-use Rattle.bitset.proofs.Rising.{first_none}
 use Rattle.rules.specs.Search.{local_graph}
 use Rattle.rules.specs.Units.{merged_into}
 use Rattle.adjacency.specs.Members.{members_of}
 use Rattle.adjacency.specs.UnitGraph.{unit_at, unit_graph}
-use Rattle.adjacency.proofs.MemberLaws.{members_none, members_few}
+use Rattle.adjacency.proofs.MemberLaws.{members_few}
 use Rattle.adjacency.specs.Adjacency.{BothWays}
 use Rattle.places.specs.Seats.{Seated}
 use Rattle.places.specs.Storing.{Stored, place_entries}
 use Rattle.places.specs.LaidOut.{Exclusive, LaidOut}
 use Rattle.places.proofs.Entries.{stored_room}
-use Rattle.places.proofs.Seating.{Placed, placed_none, placed_next}
+use Rattle.places.proofs.Seating.{Placed, placed_next}
 use Rattle.places.proofs.Counting.{place_lists, place_few, pieces_few, pieces_in, room_next, room_left}
-use Rattle.places.proofs.Laying.{Laid, laid_none, laid_next}
+use Rattle.places.proofs.Laying.{Laid, laid_next}
 use Rattle.places.proofs.LocalCost.{laid_all}
 
 pub record Turn (conflictWords stitchWords units : List ℕ) (n : ℕ) (order starts list : List ℕ) (end k : ℕ) (s seats : List ℕ) : Type 0 where
@@ -27,14 +25,6 @@ pub record Turn (conflictWords stitchWords units : List ℕ) (n : ℕ) (order st
   pub placed : Placed units n order k s seats
   -- an entry at most for each pair of pieces
   pub room : 2 * end + length (members_of s) ≤ length (members_of s) * length (members_of s)
-
-pub turn_none : (conflictWords stitchWords units : List ℕ) (n : ℕ) (order starts list s seats : List ℕ) → length starts ≡ 1025 → length list ≡ 131_584 → Empty s → length seats ≡ 512
-    → Turn conflictWords stitchWords units n order (set starts 0 0) list 0 0 s seats
-turn_none conflictWords stitchWords units n order starts list s seats long whole empty seated = record {
-  laid = laid_none (local_graph (unit_graph conflictWords stitchWords units n) order) starts list long whole;
-  placed = placed_none units n order s seats empty seated;
-  room = let none : members_of s ≡ [] = members_none s (first_none (member s) (λ k l. empty.none k)) in rw none (omega arith);
-}
 
 -- what is known of the words and of the order
 pub record Known (conflictWords stitchWords : List ℕ) (n : ℕ) (order : List ℕ) (size : ℕ) : Type 0 where

@@ -5,7 +5,7 @@ use mathlib.Core.Logic.{by_cases}
 use mathlib.Core.Path.{◌≡◌, refl, sym, ap, ◌∙◌}
 use Prim.Native.Nat.{ℕ, zero, suc, ◌+◌, ◌-◌, ◌*◌, ◌≤◌, ◌<◌}
 use native.Mathlib.Decide.{ℕ_discrete}
-use native.Mathlib.Nat.{zero-add, mul-le-mul, mul-add, le_refl}
+use native.Mathlib.Nat.{zero-add, mul-add, le_refl}
 use native.Mathlib.Omega.{arith}
 use lib.Dec.{eqb}
 use lib.ListN.{length, get_or, drop, set, replicate, get_or-replicate}
@@ -15,7 +15,7 @@ use Rattle.std.specs.List.{slice_range}
 use Rattle.rules.specs.Basics.{given, sum_to}
 use Rattle.rules.proofs.Tests.{by_test}
 use Rattle.rules.proofs.Sums.{sum_next, sum_le, sum_ext}
-use Rattle.places.specs.Local.{on_mask, off_mask, conflicts_at, stitches_at, end_at, local_added, PlaceLists}
+use Rattle.places.specs.Local.{on_mask, off_mask}
 
 pub given_most : (b : Bool) (x : ℕ) → given b x ≤ x
 given_most true x = omega arith
@@ -36,9 +36,6 @@ on_none list p m a = let none : a - a ≡ 0 = omega arith in rw none
 
 pub on_small : (list p : List ℕ) (m a b : ℕ) → on_mask list p m a b ≤ b - a
 on_small list p m a b = sum_le (λ j. given (eqb (get_or p (get_or list (a + j) 0) 0) m) 1) (b - a) (λ j. given_most (eqb (get_or p (get_or list (a + j) 0) 0) m) 1)
-
-pub off_small : (list p : List ℕ) (m a b : ℕ) → off_mask list p m a b ≤ b - a
-off_small list p m a b = sum_le (λ j. given (not (eqb (get_or p (get_or list (a + j) 0) 0) m)) 1) (b - a) (λ j. given_most (not (eqb (get_or p (get_or list (a + j) 0) 0) m)) 1)
 
 -- each entry has the mask or not
 either : (f : ℕ → Bool) (n : ℕ) → sum_to (λ j. given (f j) 1) n + sum_to (λ j. given (not (f j)) 1) n ≡ n
@@ -99,13 +96,3 @@ pub all_small : (n x m : ℕ) → get_or (replicate n x) m 0 ≤ x
 all_small zero x m = omega arith
 all_small (suc n) x zero = le_refl x
 all_small (suc n) x (suc m) = all_small n x m
-
--- what a mask adds is small
-pub added_most : (weight : ℕ) (starts list q : List ℕ) (m : ℕ) → weight ≤ 1000 → PlaceLists starts list (length q) → local_added weight starts list q m ≤ 131_715_584
-unfolding local_added
-added_most weight starts list q m h lists =
-    let k = length q in
-    let on = on_small list q m (conflicts_at starts k) (stitches_at starts k) in
-    let off = off_small list q m (stitches_at starts k) (end_at starts k) in
-    let few : on_mask list q m (conflicts_at starts k) (stitches_at starts k) ≤ 131_584 = omega (arith, lists.stitches, lists.inside) in
-    omega (arith, mul-le-mul h few, lists.inside)
