@@ -2,213 +2,147 @@
 // bench/ measures it.
 #![tactic(auto)]
 
-ghost use Rattle.std.specs.Prelude.{◌+◌, ◌<◌, ◌≤◌, length};
+ghost use Rattle.std.specs.Prelude.{◌+◌, ◌<◌, ◌≤◌};
 
-use rules::{DecomposeAnswer, Decomposition, Piece, Place, Refusal, Settings, Verdict};
-use std::io;
-use std::rt::Env;
+use rules::{Decomposition, Piece, Refused, Settings};
+use std::env::Env;
+use std::{array, io, str};
 
-fn settings(masks: u32, budget: u32) -> Settings {
-    Settings {
-        masks: masks,
-        spacing: 80,
-        margin: 10,
-        weight: 10,
-        budget: budget,
-    }
-}
+// ---- the answer
 
-fn piece(shape: u32, x1: u32, y1: u32, x2: u32, y2: u32) -> Piece {
-    Piece {
-        shape: shape,
-        x1: x1,
-        y1: y1,
-        x2: x2,
-        y2: y2,
-        fixed: Piece::UNSET,
-    }
-}
-
-// ---- lines
-
-fn write_verdict(rt: &impl Print, verdict: Verdict) -> io::Result<()> {
-    match verdict {
-        Verdict::Best => print!(rt; " best"),
-        Verdict::Open => print!(rt; " open"),
-    }
-}
-
-fn write_run(rt: &impl Print, run: Decomposition) -> io::Result<()> {
-    print!(rt;
-        "conflicts={} stitches={} cost={} steps={}",
-        run.conflicts, run.stitches, run.cost, run.steps
-    )?;
-    let verdict = run.verdict;
-    write_verdict(rt, verdict)
-}
-
-fn write_refusal(rt: &impl Print, refusal: Refusal, place: Place) -> io::Result<()> {
-    print!(rt; "refused={},{}", refusal.number(), place.number())
-}
-
-fn write_answer(rt: &impl Print, answer: DecomposeAnswer) -> io::Result<()> {
+fn write_answer(rt: &impl Print, answer: Result<Decomposition, Refused>) -> io::Result<()> {
     match answer {
-        DecomposeAnswer::Decomposed(run) => write_run(rt, run),
-        DecomposeAnswer::Refused(refusal, place) => write_refusal(rt, refusal, place),
+        Ok(
+            Decomposition {
+                conflicts,
+                stitches,
+                cost,
+                steps,
+                verdict,
+            },
+        ) => print!(rt;
+            "conflicts={conflicts} stitches={stitches} cost={cost} steps={steps} {verdict}"
+        ),
+        Err(refused) => print!(rt; "refused={refused}"),
     }
+}
+
+// A checksum, which a change of one mask always changes.
+fn digest(masks: &[u8]) -> u32 {
+    masks.iter().fold(0u32, |sum, mask| {
+        sum.wrapping_mul(31).wrapping_add(u32::from(*mask) + 1)
+    })
 }
 
 // ---- made layers
 
-// The generator's next state.
-fn next(state: u32) -> u32 {
-    ((1664525 * (state as u64) + 1013904223) % 4294967296) as u32
+// A generator of numbers, which its last one determines.
+#[derive(Clone, Copy)]
+struct Draws {
+    last: u32,
 }
 
-// A coordinate of the grid of 32 by 32 places, 40 nm apart, from a draw.
-fn coordinate(draw: u32) -> u32
-    ensures { result ≤ 1240 }
-{
-    40 * (draw / 65536 % 32)
-}
-
-// A square of 20 nm at the place of two draws.
-fn made_piece(shape: u32, x_draw: u32, y_draw: u32) -> Piece {
-    let x = coordinate(x_draw);
-    let y = coordinate(y_draw);
-    piece(shape, x, y, x + 20, y + 20)
-}
-
-fn made_layer(seed: u32, n: usize) -> [u32; 2560]
-    requires { n ≤ 512 }
-{
-    let mut flat = [0u32; 2560];
-    let mut fixed = [Piece::UNSET; 512];
-    let mut state = seed;
-    let mut i = 0;
-    while i < n {
-        let x_draw = next(state);
-        state = next(x_draw);
-        layout::put(
-            &mut flat,
-            &mut fixed,
-            i,
-            made_piece(i as u32, x_draw, state),
-        );
-        i += 1;
+impl Draws {
+    fn next(&mut self) -> u32 {
+        self.last = self
+            .last
+            .wrapping_mul(1_664_525)
+            .wrapping_add(1_013_904_223);
+        self.last
     }
-    flat
-}
 
-// The checksum with one mask more.
-fn folded(sum: u64, mask: u8) -> u64
-    requires { sum < 4294967296 }
-    ensures { result < 4294967296 }
-{
-    (31 * sum + (mask as u64) + 1) % 4294967296
-}
-
-// A checksum, which a change of one mask always changes.
-fn digest(masks: &[u8]) -> u64 {
-    let mut sum = 0;
-    let mut i = 0;
-    while i < masks.len() {
-        sum = folded(sum, masks[i]);
-        i += 1;
+    // A coordinate of the grid of 32 by 32 places, 40 nm apart.
+    fn coordinate(&mut self) -> u32
+        ensures { result ≤ 1240 }
+    {
+        40 * (self.next() / 65_536 % 32)
     }
-    sum
+
+    // A square of 20 nm at a place of that grid.
+    fn square(&mut self, shape: u32) -> Piece {
+        let x1 = self.coordinate();
+        let y1 = self.coordinate();
+        Piece {
+            shape,
+            x1,
+            y1,
+            x2: x1 + 20,
+            y2: y1 + 20,
+            fixed: Piece::UNSET,
+        }
+    }
 }
 
-// Decomposes n made pieces, of which as many are there as there are masks. None has a fixed mask.
-fn show_layer(rt: &impl Print, s: Settings, seed: u32, n: usize, masks: &mut [u8]) -> io::Result<()>
-    requires { length masks.old ≤ 512 }
-{
-    let flat = made_layer(seed, masks.len());
-    let fixed = [Piece::UNSET; 512];
-    let answer = decomposer::decompose_flat(s, &flat, &fixed, n, masks);
-    write_answer(rt, answer)?;
-    println!(rt; " digest={}", digest(masks))
+// What a layer is made from, and how it is decomposed.
+#[derive(Clone, Copy)]
+struct Made {
+    masks: u32,
+    seed: u32,
+    pieces: u32,
+    budget: u32,
 }
 
-// More pieces than there can be are asked for all the same: the call is to refuse them.
-fn show_made(rt: &impl Print, masks: u32, seed: u32, pieces: u32, budget: u32) -> io::Result<()> {
-    print!(rt; "made masks={masks} seed={seed} pieces={pieces} budget={budget}: ")?;
-    let mut list = [9u8; 512];
-    let there = (pieces as usize).min(list.len());
-    show_layer(
-        rt,
-        settings(masks, budget),
-        seed,
-        pieces as usize,
-        &mut list[..there],
-    )
+impl Made {
+    // What the four arguments from i on say, if they are numbers.
+    fn of_arguments(rt: &impl Env, i: usize) -> Option<Made>
+        requires { i + 3 < 18446744073709551616 }
+    {
+        Some(Made {
+            masks: number(rt, i)?,
+            seed: number(rt, i + 1)?,
+            pieces: number(rt, i + 2)?,
+            budget: number(rt, i + 3)?,
+        })
+    }
+
+    fn settings(self) -> Settings {
+        Settings {
+            masks: self.masks,
+            spacing: 80,
+            margin: 10,
+            weight: 10,
+            budget: self.budget,
+        }
+    }
+
+    // Each piece is of a shape of its own, and none has a fixed mask.
+    fn layer(self) -> [Piece; 513] {
+        let mut draws = Draws { last: self.seed };
+        array::from_fn(|i| draws.square(i as u32))
+    }
+
+    // More pieces than there can be are lent all the same: the call is to refuse them.
+    fn show(self, rt: &impl Print) -> io::Result<()> {
+        let Made {
+            masks,
+            seed,
+            pieces,
+            budget,
+        } = self;
+        print!(rt; "made masks={masks} seed={seed} pieces={pieces} budget={budget}: ")?;
+        let layer = self.layer();
+        let made = &layer[..layer.len().min(pieces as usize)];
+        let mut list = [9u8; 512];
+        let room = list.len().min(pieces as usize);
+        let answer = decomposer::decompose_layer(self.settings(), made, &mut list[..room]);
+        write_answer(rt, answer)?;
+        println!(rt; " digest={}", digest(&list[..room]))
+    }
 }
 
 // ---- arguments
 
-#[derive(Clone, Copy)]
-enum Number {
-    Value(u32),
-    Bad,
+// The number that digits state. The library's `parse` takes a sign too.
+fn parsed(digits: &[u8]) -> Option<u32> {
+    if !digits.iter().all(|byte| byte.is_ascii_digit()) {
+        return None;
+    }
+    str::from_utf8(digits).ok()?.parse().ok()
 }
 
-// The value of a digit, or 10 for any other byte.
-fn digit(byte: u8) -> u64
-    ensures { result ≤ 10 }
-{
-    if byte < 48 {
-        10
-    } else if byte > 57 {
-        10
-    } else {
-        (byte - 48) as u64
-    }
-}
-
-fn parsed(text: &[u8]) -> Number {
-    if text.len() == 0 {
-        return Number::Bad;
-    }
-    let mut value = 0u64;
-    let mut i = 0;
-    while i < text.len() {
-        let d = digit(text[i]);
-        if d == 10 {
-            return Number::Bad;
-        }
-        value = 10 * value + d;
-        if value > 4294967295 {
-            return Number::Bad;
-        }
-        i += 1;
-    }
-    Number::Value(value as u32)
-}
-
-fn argument(rt: &impl Env, i: usize) -> Number {
+fn number(rt: &impl Env, i: usize) -> Option<u32> {
     let mut text = [0u8; 4_096];
-    let n = files::argument(rt, i, &mut text);
-    parsed(&text[..n])
-}
-
-// Whether the four arguments from i on are numbers. If they are, the layer that they ask for is shown.
-fn show_group(rt: &(impl Env + Print), i: usize) -> io::Result<bool>
-    requires { i + 3 < 18446744073709551616 }
-{
-    let Number::Value(masks) = argument(rt, i) else {
-        return Ok(false);
-    };
-    let Number::Value(seed) = argument(rt, i + 1) else {
-        return Ok(false);
-    };
-    let Number::Value(pieces) = argument(rt, i + 2) else {
-        return Ok(false);
-    };
-    let Number::Value(budget) = argument(rt, i + 3) else {
-        return Ok(false);
-    };
-    show_made(rt, masks, seed, pieces, budget)?;
-    Ok(true)
+    parsed(files::argument(rt, i, &mut text)?)
 }
 
 fn main(rt: HostRuntime) -> io::Result<()> {
@@ -216,10 +150,11 @@ fn main(rt: HostRuntime) -> io::Result<()> {
     if count % 4 != 1 {
         return println!(rt; "give MASKS SEED PIECES BUDGET for each made layer");
     }
-    for g in 0..count / 4 {
-        if !show_group(&rt, 4 * g + 1)? {
+    for group in 0..count / 4 {
+        let Some(made) = Made::of_arguments(&rt, 4 * group + 1) else {
             return println!(rt; "an argument is no decimal number below 2^32");
-        }
+        };
+        made.show(&rt)?;
     }
     Ok(())
 }
