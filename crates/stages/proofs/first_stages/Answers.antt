@@ -1,47 +1,64 @@
 -- `first_stages`: each stage may be called where the one before it ended, as in the run itself. Assumes nothing.
-use Rattle.std.proofs.Common.{◌≡◌, ◌≤◌, length, take, sym, refl, arith, length-take-le}
-use Rattle.layout.proofs.PieceLaws.{pieces_length, SoundFlat, valid_flat}
+use Rattle.std.proofs.Common.{refl, arith}
+use Rattle.rules.specs.Settings.{fixed_masks}
+use Rattle.rules.proofs.Ranges.{settings_facts}
+use Rattle.rules.proofs.Validity.{valid_sound}
+use Rattle.adjacency.specs.UnitGraph.{unit_at}
+use Rattle.adjacency.proofs.AdjacencyLaws.{conflicts_both_ways, stitches_both_ways}
+use Rattle.fixed_masks.proofs.FixedLaws.{masks_length}
+use Rattle.units.specs.Noted.{NotedMasks}
 use Rattle.units.proofs.SplitLaws.{unit_inside}
-use Rattle.decomposer.proofs.RunLaws.{unfixed_valid, layer_words, unit_places, units_fixed}
+use Rattle.decomposer.proofs.RunLaws.{few, layer_sound, unit_places, units_fixed}
 use Rattle.stages.proofs.first_stages.Goals as goal
-use Rattle.stages.proofs.first_stages.Goals.{After-layer_units-all}
+use Rattle.stages.proofs.first_stages.Goals.{After-note_masks}
 
--- the units were numbered
-module _ (c : After-layer_units-all) where
-  sound : SoundFlat c.args.settings c.args.flat.now (length c.args.masks.now)
-  sound = valid_flat _ _ _ (unfixed_valid _ _ _ _ c.requires)
-
-  -- every piece has a place in it
-  room : length c.args.masks.now ≤ length c.args.fixed.now
-  room = omega (arith, sound.count)
-
-  size : length (take (length c.args.masks.now) c.args.fixed.now) ≡ length c.args.masks.now
-  size = length-take-le _ _ room
-
-pub layer_units-all-requires : goal.layer_units-all-requires
-layer_units-all-requires c =
-    record {
-      valid = unfixed_valid _ _ _ _ c.requires;
-      units_len = refl;
-    }
-
-pub slice_bounds-note_masks-end : goal.slice_bounds-note_masks-end
-slice_bounds-note_masks-end c = sym (size (goal.at.slice_bounds-note_masks-end c).After-layer_units-all)
+pub fixed_masks_of-given-requires : goal.fixed_masks_of-given-requires
+fixed_masks_of-given-requires c = few _ _ c.requires.valid
 
 pub note_masks-requires : goal.note_masks-requires
 note_masks-requires c =
+    rw (c.fixed_masks_of-given.ensures, masks_length c.args.pieces.now)
+    (record {
+      masks_len_bound = few _ _ c.requires.valid;
+      by_index = λ i l. unit_inside _ _ c.layer_units-core.ensures.units_of i l;
+    })
+
+-- the fixed masks of the pieces were noted of their units
+noted : (c : After-note_masks) → NotedMasks (unit_at c.layer_units-core.new.units) (fixed_masks c.args.pieces.now) c.note_masks.new.noted c.note_masks.result
+noted c = rw c.fixed_masks_of-given.ensures at c.note_masks.ensures
+
+pub merge_edges-requires : goal.merge_edges-requires
+merge_edges-requires c =
+    let sizes = few _ _ c.requires.valid in
+    let edges = c.layer_units-core.ensures.adjacency in
     record {
-      masks_len_bound = omega (arith, size (goal.at.note_masks-requires c).After-layer_units-all, (sound (goal.at.note_masks-requires c).After-layer_units-all).count);
-      by_index = λ i l. omega (arith, size (goal.at.note_masks-requires c).After-layer_units-all, unit_inside _ _ _ (pieces_length _ _) c.layer_units-all.ensures.units_of i (omega (arith, size (goal.at.note_masks-requires c).After-layer_units-all)));
+      n_bound = sizes;
+      by_index = λ i l. omega (arith, unit_inside _ _ c.layer_units-core.ensures.units_of i l);
+      conflict_ways = conflicts_both_ways edges;
+      stitch_ways = stitches_both_ways edges;
     }
 
-pub unit_stages-requires : goal.unit_stages-requires
-unit_stages-requires c =
-    let adjacency = c.layer_units-all.ensures.adjacency in
-    let numbered = c.layer_units-all.ensures.units_of in
-    record {
-      settings_value = (sound (goal.at.unit_stages-requires c).After-layer_units-all).settings;
-      words = layer_words _ _ _ _ c.requires adjacency numbered;
-      has_places = unit_places _ _ _ _ c.requires adjacency numbered c.args.masks.now refl;
-      has_fixed = units_fixed _ _ _ _ c.requires adjacency numbered (room (goal.at.unit_stages-requires c).After-layer_units-all) c.note_masks.ensures;
-    }
+pub search_core-requires-clause-sound : goal.search_core-requires-clause-sound
+search_core-requires-clause-sound c =
+    layer_sound _ _ c.requires.valid c.layer_units-core.ensures.adjacency c.layer_units-core.ensures.units_of _ refl refl refl refl
+
+-- what is left of the units is among them
+pub search_core-requires-clause-given : goal.search_core-requires-clause-given
+search_core-requires-clause-given c =
+    let valid = c.requires.valid in
+    let adjacency = c.layer_units-core.ensures.adjacency in
+    let numbered = c.layer_units-core.ensures.units_of in
+    let facts = settings_facts _ (valid_sound _ _ valid).settings in
+    let places = unit_places _ _ valid adjacency numbered c.args.masks.now c.requires.masks_len in
+    let fixed = units_fixed _ _ valid adjacency numbered (noted (goal.at.search_core-requires-clause-given c).After-note_masks) in
+    let within = c.peel-removals.ensures.inside in
+    rw c.from-limits.ensures
+    (record {
+      some = omega (arith, facts.masks.low);
+      masks = facts.masks.high;
+      weight = facts.weight.high;
+      afford = omega arith;
+      placed = λ u l m. places u l (within u m);
+      fixed_whole = fixed.whole;
+      fixed_low = λ u l m. fixed.low u l (within u m);
+    })
