@@ -5,6 +5,7 @@ ghost use Rattle.record_cases.specs.Layers.{four_records, far_square, records_of
 ghost use Rattle.record_cases.specs.declared.layers.Layer.{Layer};
 
 use rules::Piece;
+use std::array;
 
 // The three squares of RULES 9; those with a piece of no width, one out of range, or one that overlaps; a wire in halves with a piece
 // beside each; squares far apart; two tied pieces with two neighbours. The row with its middle piece fixed to mask 0, the row with the thin
@@ -27,17 +28,19 @@ pub enum Layer {
 fn piece(five: [u32; 5]) -> Piece
     ensures { result ≡ piece_from five }
 {
+    let [shape, x1, y1, x2, y2] = five;
     Piece {
-        shape: five[0],
-        x1: five[1],
-        y1: five[2],
-        x2: five[3],
-        y2: five[4],
+        shape,
+        x1,
+        y1,
+        x2,
+        y2,
         fixed: Piece::UNSET,
     }
 }
 
 // Four pieces, and then the first one again.
+#[tactic(auto, unfolding(crate::specs::Layers::four_records))]
 fn four_records(a: [u32; 5], b: [u32; 5], c: [u32; 5], d: [u32; 5]) -> [Piece; 513]
     ensures { result ≡ four_records a b c d }
 {
@@ -115,37 +118,15 @@ fn tied() -> [Piece; 513]
 }
 
 // The records with the mask of record i fixed.
-fn fix(records: [Piece; 513], i: usize, mask: u8) -> [Piece; 513]
+fn fix(mut records: [Piece; 513], i: usize, mask: u8) -> [Piece; 513]
     requires { i < 513 }
     ensures { result ≡ fix_at i mask records }
 {
-    let mut all = records;
-    let mut piece = all[i];
-    piece.fixed = mask;
-    all[i] = piece;
-    all
-}
-
-fn fixed_row() -> [Piece; 513]
-    ensures { result ≡ records_of Layer.FixedRow }
-{
-    let records = row();
-    fix(records, 1, 0)
-}
-
-fn fixed_thin() -> [Piece; 513]
-    ensures { result ≡ records_of Layer.FixedThin }
-{
-    let records = thin();
-    fix(records, 1, 2)
-}
-
-fn fixed_tied() -> [Piece; 513]
-    ensures { result ≡ records_of Layer.FixedTied }
-{
-    let records = tied();
-    let first = fix(records, 0, 0);
-    fix(first, 1, 1)
+    records[i] = Piece {
+        fixed: mask,
+        ..records[i]
+    };
+    records
 }
 
 // A square of a grid with 32 in a row.
@@ -162,13 +143,7 @@ fn far_square(i: u32) -> Piece
 fn far() -> [Piece; 513]
     ensures { result ≡ records_of Layer.Far }
 {
-    let mut all = [far_square(0); 513];
-    let mut i = 0;
-    while i < 513 {
-        all[i] = far_square(i as u32);
-        i += 1;
-    }
-    all
+    array::from_fn(|i| far_square(i as u32))
 }
 
 // The records of a layer.
@@ -183,8 +158,8 @@ pub fn records_of(layer: Layer) -> [Piece; 513]
         Layer::Wire => wire(),
         Layer::Far => far(),
         Layer::Tied => tied(),
-        Layer::FixedRow => fixed_row(),
-        Layer::FixedThin => fixed_thin(),
-        Layer::FixedTied => fixed_tied(),
+        Layer::FixedRow => fix(row(), 1, 0),
+        Layer::FixedThin => fix(thin(), 1, 2),
+        Layer::FixedTied => fix(fix(tied(), 0, 0), 1, 1),
     }
 }

@@ -1,105 +1,117 @@
-// What a call comes to, as eight numbers, and whether two are the same.
-ghost use Rattle.std.specs.Prelude.{true, ◌↔◌, ◌≡◌};
+// What a call comes to, with whether lent memory is then as it must be.
+ghost use Rattle.std.specs.Prelude.{◌≡◌};
 ghost use Rattle.rules.specs.Answers.{refusal_number};
-ghost use Rattle.rules.specs.Basics.{given};
 ghost use Rattle.rules.specs.Loader.{place_number};
-ghost use Rattle.record_cases.specs.Outcomes.{refused_as, scored_as, written_as, run_as, verdict_number, score_numbers, run_numbers, with_memory, SameNumbers};
+ghost use Rattle.record_cases.specs.Outcomes.{answer_numbers, numbers_of, refused_as, run_as, scored_as};
 
-use rules::{Decomposition, Place, Refusal, Scoring, Verdict};
+use rules::{Decomposition, Place, Refusal, Refused, Score, Scoring, Verdict};
+use std::fmt;
+use std::fmt::Display;
 
-pub fn refused(number: u64, place: u64) -> [u64; 8]
-    ensures { result ≡ refused_as number place }
-{
-    [number, place, 0, 0, 0, 0, 0, 0]
+#[derive(Clone, Copy, Debug, PartialEq, Eq)]
+pub enum Answer {
+    Scored(Scoring),
+    Decomposed(Decomposition),
+    Written(usize),
+    Refused(Refused),
 }
 
-pub fn scored(conflicts: u64, stitches: u64, cost: u64, tested: u64) -> [u64; 8]
-    ensures { result ≡ scored_as conflicts stitches cost tested }
+// The answer with this score and so many tested pairs.
+pub fn scored(conflicts: u32, stitches: u32, cost: u32, tested: u32) -> Answer
+    ensures { answer_numbers result ≡ scored_as conflicts stitches cost tested }
 {
-    [0, 0, conflicts, stitches, cost, tested, 0, 0]
+    let score = Score {
+        conflicts,
+        stitches,
+        cost,
+    };
+    Answer::Scored(Scoring { score, tested })
 }
 
-pub fn best(conflicts: u64, stitches: u64, cost: u64, steps: u64) -> [u64; 8]
-    ensures { result ≡ run_as conflicts stitches cost steps 1 }
+// The answer of a run that ended within its budget.
+pub fn best(conflicts: u32, stitches: u32, cost: u32, steps: u32) -> Answer
+    ensures { answer_numbers result ≡ run_as conflicts stitches cost steps 1 }
 {
-    [0, 0, conflicts, stitches, cost, steps, 1, 0]
+    Answer::Decomposed(Decomposition {
+        conflicts,
+        stitches,
+        cost,
+        steps,
+        verdict: Verdict::Best,
+    })
 }
 
-pub fn written(size: usize) -> [u64; 8]
-    ensures { result ≡ written_as size }
+// The answer that refuses what stands at this place.
+pub fn refused(refusal: Refusal, place: Place) -> Answer
+    ensures { answer_numbers result ≡ refused_as (refusal_number refusal) (place_number place) }
 {
-    [0, 0, 0, 0, 0, size as u64, 0, 0]
+    Answer::Refused(refusal.at(place))
 }
 
-// 1 where something is so.
-fn counted(yes: bool) -> u64
-    ensures { result ≡ given yes 1 }
-{
-    if yes { 1 } else { 0 }
+#[derive(Clone, Copy, Debug, PartialEq, Eq)]
+pub struct Outcome {
+    pub answer: Answer,
+    pub kept: bool,
 }
 
-// The outcome, with whether lent memory is as it must be.
-pub fn with_memory(came: [u64; 8], same: bool) -> [u64; 8]
-    ensures { result ≡ with_memory came same }
-{
-    let mut all = came;
-    all[7] = counted(!same);
-    all
-}
-
-pub fn of_refusal(refusal: Refusal, place: Place) -> [u64; 8]
-    ensures { result ≡ refused_as (refusal_number refusal) (place_number place) }
-{
-    refused(refusal.number() as u64, place.number() as u64)
-}
-
-pub fn of_score(scoring: Scoring) -> [u64; 8]
-    ensures { result ≡ score_numbers scoring }
-{
-    let score = scoring.score;
-    scored(
-        score.conflicts as u64,
-        score.stitches as u64,
-        score.cost as u64,
-        scoring.tested as u64,
-    )
-}
-
-fn of_verdict(verdict: Verdict) -> u64
-    ensures { result ≡ verdict_number verdict }
-{
-    match verdict {
-        Verdict::Best => 1,
-        Verdict::Open => 0,
-    }
-}
-
-pub fn of_run(run: Decomposition) -> [u64; 8]
-    ensures { result ≡ run_numbers run }
-{
-    let verdict = run.verdict;
-    [
-        0,
-        0,
-        run.conflicts as u64,
-        run.stitches as u64,
-        run.cost as u64,
-        run.steps as u64,
-        of_verdict(verdict),
-        0,
-    ]
-}
-
-// Whether two outcomes have the same numbers.
-pub fn is_outcome(came: [u64; 8], wanted: [u64; 8]) -> bool
-    ensures { (result ≡ true) ↔ SameNumbers came wanted }
-{
-    let mut i = 0;
-    while i < 8 {
-        if came[i] != wanted[i] {
-            return false;
+impl Outcome {
+    // As eight numbers: the refusal's number and place; conflicts, stitches and cost; steps, pairs tested, or the length of a text; 1 where
+    // the run is best; and 1 where lent memory is not as it must be. What a call does not give is 0.
+    fn numbers(self) -> [u64; 8]
+        ensures { result ≡ numbers_of self }
+    {
+        let changed = u64::from(!self.kept);
+        match self.answer {
+            Answer::Scored(Scoring { score, tested }) => [
+                0,
+                0,
+                u64::from(score.conflicts),
+                u64::from(score.stitches),
+                u64::from(score.cost),
+                u64::from(tested),
+                0,
+                changed,
+            ],
+            Answer::Decomposed(run) => [
+                0,
+                0,
+                u64::from(run.conflicts),
+                u64::from(run.stitches),
+                u64::from(run.cost),
+                u64::from(run.steps),
+                u64::from(run.verdict == Verdict::Best),
+                changed,
+            ],
+            Answer::Written(size) => [0, 0, 0, 0, 0, size as u64, 0, changed],
+            Answer::Refused(Refused { refusal, place }) => [
+                u64::from(refusal.number()),
+                u64::from(place.number()),
+                0,
+                0,
+                0,
+                0,
+                0,
+                changed,
+            ],
         }
-        i += 1;
     }
-    true
+}
+
+impl Display for Outcome {
+    fn fmt<W: fmt::Write>(&self, f: &mut fmt::Formatter<W>) -> fmt::Result {
+        let [
+            number,
+            place,
+            conflicts,
+            stitches,
+            cost,
+            work,
+            best,
+            changed,
+        ] = self.numbers();
+        write!(
+            f,
+            "{number} {place} {conflicts} {stitches} {cost} {work} {best} {changed}"
+        )
+    }
 }

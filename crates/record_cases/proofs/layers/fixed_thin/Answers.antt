@@ -1,7 +1,0 @@
--- `fixed_thin`: the records with one mask fixed. Assumes nothing.
-use mathlib.Core.Path.{ap, ◌∙◌}
-use Rattle.rules.specs.Questions.{fix_at}
-use Rattle.record_cases.proofs.layers.fixed_thin.Goals as goal
-
-pub returns : goal.returns
-returns c = c.fix.ensures ∙ ap (fix_at 1 2) c.thin-records.ensures
