@@ -13,7 +13,7 @@ use places::Lists;
 use search::search_component;
 pub use search::{Limits, Progress};
 
-// The graph of units: the edges of the pieces below n, and the unit of each of these.
+// The graph of units: the edges of the pieces below n, and the unit of each of these. The array of units has room for all pieces, and is lent on whole.
 #[derive(Clone, Copy)]
 pub struct UnitGraph<'a> {
     pub edges: &'a EdgeSets,

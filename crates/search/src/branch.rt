@@ -35,6 +35,7 @@ impl Problem<'_> {
         }
         let row = added_row(self.lists, &self.table, &walk.partial[..p]);
         let masks = self.limits.masks as usize;
+        // A fixed mask is a number of the records, of which one stands for none.
         let own = self.table.fixed_mask(p);
         let (first, last) = if own == Piece::UNSET {
             (0, masks.min(used + 1))
