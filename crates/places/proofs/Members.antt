@@ -8,7 +8,7 @@ use native.Mathlib.Nat.{add-suc}
 use native.Mathlib.Omega.{arith}
 use native.Mathlib.Decide.{ℕ_discrete}
 use lib.Dec.{eqb, ltb}
-use lib.ListN.{length, get_or, set, replicate, length-set, length-replicate, get_or-replicate}
+use lib.ListN.{length, get_or, set, replicate, length-set, get_or-replicate}
 use lib.Seq.{get_or-set_same, get_or-set_other}
 use borrow.Author.Tests.{eq-eqb, ne_eqb, lt-ltb, le-ltb}
 use Rattle.std.proofs.lemmas.List.{get_or_default}
@@ -56,11 +56,12 @@ pub record Sorted (units : List ℕ) (n : ℕ) (sets : List (List ℕ)) : Type 0
   pub long : length sets ≡ 512
   pub has : (u q : ℕ) → u < 512 → member (get_or sets u []) q ≡ (ltb q n && eqb (unit_at units q) u)
 
-pub sorted_none : (units none : List ℕ) → Empty none → Sorted units 0 (replicate 512 none)
-sorted_none units none e = record {
-  long = length-replicate 512 none;
-  has = λ u q l. ap (λ (s : List ℕ). member s q) (get_or-replicate 512 u none [] l) ∙ e.none q ∙ rw (le-ltb q 0 (omega arith));
-}
+-- no set has a member yet
+pub none_there : (none : List ℕ) → Empty none → (u q : ℕ) → u < 512 → member (get_or (replicate 512 none) u []) q ≡ false
+none_there none e u q l = ap (λ (s : List ℕ). member s q) (get_or-replicate 512 u none [] l) ∙ e.none q
+
+pub sorted_none : (units : List ℕ) (sets : List (List ℕ)) → length sets ≡ 512 → ((u q : ℕ) → u < 512 → member (get_or sets u []) q ≡ false) → Sorted units 0 sets
+sorted_none units sets long none = record { long = long; has = λ u q l. none u q l ∙ rw (le-ltb q 0 (omega arith)) }
 
 -- where q is not n, it is below the next number exactly where it is below n
 other_next : (q n : ℕ) → (q ≡ n → ⊥) → ltb q (n + 1) ≡ ltb q n

@@ -42,7 +42,8 @@ impl Lists {
     }
 
     // Lays out the places, whose units are those of `order`. A unit's pieces are those below n that `units` gives it: the graph of units is one of an
-    // array and a length, so both are passed.
+    // array and a length, so both are passed. Inlined, its sets would stand on the stack while the search goes from place to place.
+    #[inline(never)]
     pub fn lay_out(&mut self, edges: &EdgeSets, units: &[u16; 512], n: usize, order: &[u16])
         requires size_bound { (length order.now ≤ 512) × (n ≤ 512) }
         requires by_index { (i : ℕ) → i < length order.now → get_or order.now i 0 < 512 }
@@ -52,7 +53,8 @@ impl Lists {
         requires both_ways { BothWays edges.now.conflicts × BothWays edges.now.stitches }
         ensures { LaidOut edges.now.conflicts edges.now.stitches units.now n order.now (length order.now) self.new.starts self.new.entries }
     {
-        let of_units = pieces_of_units(units, n);
+        let mut of_units = [BitSet::empty(); 512];
+        pieces_of_units(units, n, &mut of_units);
         let mut earlier = BitSet::empty();
         let mut seats = [0u16; 512];
         self.starts[0] = 0;

@@ -1,5 +1,5 @@
 // The pieces of each unit, as sets: they are found in one pass over the pieces, so that no unit's pieces are looked for.
-ghost use Rattle.std.specs.Prelude.{[], ◌≡◌, ◌&&◌, ℕ, ◌≤◌, ◌<◌, eqb, ltb, get_or};
+ghost use Rattle.std.specs.Prelude.{false, [], ◌≡◌, ◌&&◌, ℕ, ◌≤◌, ◌<◌, eqb, ltb, length, get_or};
 ghost use Rattle.bitset.specs.Bits.{member};
 ghost use Rattle.adjacency.specs.UnitGraph.{unit_at};
 ghost use Rattle.adjacency.specs.Members.{members_of};
@@ -7,17 +7,17 @@ ghost use Rattle.places.specs.Seats.{Seated};
 
 use bitset::BitSet;
 
-// The pieces below n of each unit.
-pub fn pieces_of_units(units: &[u16; 512], n: usize) -> [BitSet; 512]
+// Puts the pieces below n into the sets of their units, which are lent empty: an array of sets that is handed back would be copied.
+pub fn pieces_of_units(units: &[u16; 512], n: usize, pieces: &mut [BitSet; 512])
     requires n_bound { n ≤ 512 }
     requires by_index { (i : ℕ) → i < n → unit_at units.now i < 512 }
-    ensures { (u q : ℕ) → u < 512 → member (get_or result u []) q ≡ (ltb q n && eqb (unit_at units.now q) u) }
+    requires empty { (u q : ℕ) → u < 512 → member (get_or pieces.old u []) q ≡ false }
+    ensures all { length pieces.new ≡ 512 }
+    ensures sorted { (u q : ℕ) → u < 512 → member (get_or pieces.new u []) q ≡ (ltb q n && eqb (unit_at units.now q) u) }
 {
-    let mut pieces = [BitSet::empty(); 512];
     for (q, unit) in units[..n].iter().enumerate() {
         pieces[usize::from(*unit)].put(q);
     }
-    pieces
 }
 
 // Puts the pieces of a unit into the set, and notes that their place is k.

@@ -12,7 +12,7 @@ size : (c : Start) → length (take c.args.n c.args.units.now) ≡ c.args.n
 size c = length-take-le c.args.n c.args.units.now (omega (arith, c.told-units, c.requires.n_bound))
 
 pub loop-q-init : goal.loop-q-init
-loop-q-init c = sorted_none c.args.units.now c.empty-pieces.result c.empty-pieces.ensures
+loop-q-init c = sorted_none c.args.units.now c.args.pieces.now c.told-pieces c.requires.empty
 
 pub loop-q-preserved : goal.loop-q-preserved
 loop-q-preserved c =
@@ -24,4 +24,5 @@ loop-q-preserved c =
 pub returns : goal.returns
 returns c =
     let end : c.loop-q.q ≡ c.args.n = omega (arith, size (goal.at.returns c).Start) in
-    (subst (λ (q : ℕ). Sorted c.args.units.now q c.loop-q.pieces) end c.loop-q.invariant).has
+    let done = subst (λ (q : ℕ). Sorted c.args.units.now q c.loop-q.pieces) end c.loop-q.invariant in
+    record { all = done.long; sorted = done.has }

@@ -1,7 +1,6 @@
 use native.Mathlib.Omega.{arith}
 use mathlib.Core.List.{List, []}
 use mathlib.Core.Path.{◌≡◌, refl, ap, ◌∙◌}
-use Rattle.std.proofs.Common.{rules}
 use Rattle.std.proofs.lemmas.List.{get_or_default}
 use Prim.Native.Nat.{ℕ, ◌+◌, ◌≤◌, ◌<◌}
 use lib.ListN.{length, get_or}
@@ -9,7 +8,7 @@ use Rattle.rules.specs.Units.{merged_into}
 use Rattle.adjacency.specs.Members.{members_of}
 use Rattle.adjacency.specs.UnitGraph.{unit_at}
 use Rattle.places.specs.Storing.{place_entries}
-use Rattle.places.proofs.Members.{unit_members}
+use Rattle.places.proofs.Members.{none_there, unit_members}
 use Rattle.places.proofs.Entries.{stored_room}
 use Rattle.places.proofs.Turns.{Known, turn_room, turn_next, turn_all}
 use Rattle.places.proofs.lists.Lists.lay_out.Goals as goal
@@ -24,14 +23,14 @@ module _ (turn : In-loop-k) where
   pieces = merged_into (unit_at turn.args.units.now) turn.args.n unit
 
   -- the set that is read has them
-  found : (v : ℕ) (d : List ℕ) → v ≡ unit → members_of (get_or turn.pieces_of_units-of_units.result v d) ≡ pieces
+  found : (v : ℕ) (d : List ℕ) → v ≡ unit → members_of (get_or turn.pieces_of_units.new.pieces v d) ≡ pieces
   found v d at =
-      let sets = turn.pieces_of_units-of_units.result in
-      let long : length sets ≡ 512 = search rules in
+      let sets = turn.pieces_of_units.new.pieces in
+      let long : length sets ≡ 512 = turn.pieces_of_units.ensures.all in
       let small : unit < 512 = turn.requires.by_index turn.loop-k.k (omega arith) in
       ap (λ (x : ℕ). members_of (get_or sets x d)) at
       ∙ ap members_of (get_or_default sets unit d [] (omega arith))
-      ∙ unit_members (get_or sets unit []) turn.args.units.now turn.args.n unit turn.requires.size_bound.1 (λ q. turn.pieces_of_units-of_units.ensures unit q small)
+      ∙ unit_members (get_or sets unit []) turn.args.units.now turn.args.n unit turn.requires.size_bound.1 (λ q. turn.pieces_of_units.ensures.sorted unit q small)
 
   abbrev entries_of : List ℕ → List ℕ
   entries_of words = place_entries words turn.loop-k.seats turn.loop-k.earlier pieces
@@ -48,6 +47,9 @@ module _ (turn : In-loop-k) where
 
   room : turn.loop-k.end + (length (entries_of turn.args.edges.now.conflicts) + length (entries_of turn.args.edges.now.stitches)) ≤ 131_584
   room = turn_room given turn.loop-k.invariant (omega arith)
+
+pub pieces_of_units-requires-clause-empty : goal.pieces_of_units-requires-clause-empty
+pieces_of_units-requires-clause-empty c = none_there c.empty-of_units.result c.empty-of_units.ensures
 
 pub list_place-middle-requires : goal.list_place-middle-requires
 list_place-middle-requires c =
