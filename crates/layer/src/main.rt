@@ -4,85 +4,54 @@
 // the reading and the printing alone.
 #![tactic(auto)]
 
-ghost use Rattle.std.specs.Prelude.{◌≡◌, ℕ, ◌≤◌, length};
-ghost use Rattle.rules.specs.Answers.{write_answer};
-ghost use Rattle.rules.specs.Questions.{done};
+ghost use Rattle.std.specs.Prelude.{◌≤◌, length, IfOk};
 
 use files::{argument, argument_count, read_all, read_file};
-use rules::{Place, Refusal, WriteAnswer};
+use rules::Refused;
 use std::io;
 use std::rt::{Env, Files};
 
 // ---- the answer
 
-fn write_refusal(rt: &impl Print, refusal: Refusal, place: Place) -> io::Result<()> {
-    println!(rt; "refused={},{}", refusal.number(), place.number())
-}
-
-fn show(rt: &impl Print, answer: WriteAnswer, buffer: &[u8]) -> io::Result<()>
-    requires { (n : ℕ) → write_answer answer ≡ done n → n ≤ length buffer.now }
+fn show(rt: &impl Print, answer: Result<usize, Refused>, buffer: &[u8]) -> io::Result<()>
+    requires { IfOk answer (λ n. n ≤ length buffer.now) }
 {
     match answer {
-        WriteAnswer::Written(length) => rt.write_all(&buffer[..length]),
-        WriteAnswer::Refused(refusal, place) => write_refusal(rt, refusal, place),
+        Ok(length) => rt.write_all(&buffer[..length]),
+        Err(refused) => println!(rt; "refused={refused}"),
     }
 }
 
 // ---- a layer text
 
-fn show_text(rt: &impl Print, text: &[u8], buffer: &mut [u8]) -> io::Result<()> {
-    let answer = loader::decompose_text(text, buffer);
-    show(rt, answer, buffer)
-}
-
 // One byte more than a text may have is read, so that a text that is too long is seen by it; the rest of it is left unread.
 fn show_input(rt: &(impl Input + Print)) -> io::Result<()> {
     let mut text = [0u8; 32_769];
-    let n = read_all(&mut rt.reader(), &mut text)?;
     let mut result = [0u8; 4_096];
-    show_text(rt, &text[..n], &mut result)
+    let read = read_all(&mut rt.reader(), &mut text)?;
+    let answer = loader::decompose_text(read, &mut result);
+    show(rt, answer, &result)
 }
 
 // ---- a settings text and a stream
 
-fn show_layer(
-    rt: &impl Print,
-    settings: &[u8],
-    stream: &[u8],
-    buffer: &mut [u8],
-) -> io::Result<()> {
-    let answer = loader::decompose_stream(settings, stream, buffer);
-    show(rt, answer, buffer)
-}
-
 // One byte more of each file, for the same reason.
-fn show_stream(
-    rt: &(impl Files + Print + Eprint),
-    settings: &[u8],
-    stream_path: &[u8],
-) -> io::Result<()> {
-    let mut stream = [0u8; 65_537];
-    let read = read_file(rt, stream_path, &mut stream);
-    if !read.good {
-        return Ok(());
-    }
-    let n = read.bytes;
-    let mut result = [0u8; 4_096];
-    show_layer(rt, settings, &stream[..n], &mut result)
-}
-
 fn show_files(
     rt: &(impl Files + Print + Eprint),
-    settings_path: &[u8],
-    stream_path: &[u8],
+    settings: &[u8],
+    stream: &[u8],
 ) -> io::Result<()> {
-    let mut settings = [0u8; 32_769];
-    let read = read_file(rt, settings_path, &mut settings);
-    if !read.good {
+    let mut settings_text = [0u8; 32_769];
+    let mut stream_bytes = [0u8; 65_537];
+    let mut result = [0u8; 4_096];
+    let Some(settings) = read_file(rt, settings, &mut settings_text) else {
         return Ok(());
-    }
-    let n = read.bytes;
-    show_stream(rt, &settings[..n], stream_path)
+    };
+    let Some(stream) = read_file(rt, stream, &mut stream_bytes) else {
+        return Ok(());
+    };
+    let answer = loader::decompose_stream(settings, stream, &mut result);
+    show(rt, answer, &result)
 }
 
 // ---- the program
@@ -91,20 +60,18 @@ fn say_usage(rt: &impl Eprint) -> io::Result<()> {
     eprintln!(rt; "usage: layer < LAYER-FILE, or layer SETTINGS-FILE STREAM-FILE")
 }
 
-// An argument that is missing, empty or longer than a path can be has the length 0.
+// No path is empty, and none is longer than its buffer.
 fn show_arguments(rt: &(impl Env + Files + Print + Eprint)) -> io::Result<()> {
-    let mut settings_path = [0u8; 4_096];
-    let settings_bytes = argument(rt, 1, &mut settings_path);
-    let mut stream_path = [0u8; 4_096];
-    let stream_bytes = argument(rt, 2, &mut stream_path);
-    if argument_count(rt) != 3 || settings_bytes == 0 || stream_bytes == 0 {
-        return say_usage(rt);
+    let mut first = [0u8; 4_096];
+    let mut second = [0u8; 4_096];
+    let settings = argument(rt, 1, &mut first).filter(|path| !path.is_empty());
+    let stream = argument(rt, 2, &mut second).filter(|path| !path.is_empty());
+    match (settings, stream) {
+        (Some(settings), Some(stream)) if argument_count(rt) == 3 => {
+            show_files(rt, settings, stream)
+        }
+        _ => say_usage(rt),
     }
-    show_files(
-        rt,
-        &settings_path[..settings_bytes],
-        &stream_path[..stream_bytes],
-    )
 }
 
 // The first of the arguments is the program's name.

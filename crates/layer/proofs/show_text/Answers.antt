@@ -1,8 +1,0 @@
--- `layer::show_text` is safe and ends: as many bytes as the call answers stand in the buffer. Assumes nothing.
-use mathlib.Core.Path.{sym, ◌∙◌}
-use Rattle.rules.specs.Calls.{decompose_text}
-use Rattle.loader.proofs.CallLaws.{length_within}
-use Rattle.layer.proofs.show_text.Goals as goal
-
-pub show-requires : goal.show-requires
-show-requires g c n e = length_within (decompose_text _ _) _ (sym e ∙ c.decompose_text-answer.ensures.result_value) c.decompose_text-answer.ensures.buffer_after
