@@ -3,7 +3,8 @@ use mathlib.Core.List.{List}
 use mathlib.Core.Path.{◌≡◌, refl, sym, ap, ap₂, subst, ◌∙◌}
 use Prim.Native.Nat.{ℕ, ◌≤◌}
 use native.Mathlib.Omega.{arith}
-use lib.ListN.{length, drop, length-append}
+use lib.ListN.{length, take, drop, length-append}
+use borrow.Author.Tests.{le-leb}
 use Rattle.std.proofs.Common.{Result, Ok, Err}
 use Rattle.rules.specs.declared.layer.Settings.{Settings}
 use Rattle.rules.specs.declared.layer.Piece.{Piece}
@@ -13,11 +14,13 @@ use Rattle.rules.specs.Answers.{length_of, HandedBack}
 use Rattle.rules.specs.Calls.{decompose_read, buffer_after}
 use Rattle.rules.specs.Decomposition.{Run, run}
 use Rattle.rules.specs.Demands.{Demand3OfRead}
+use Rattle.rules.specs.Loader.{loader_number}
 use Rattle.rules.specs.Questions.{Outcome, done, refused, Layer, Valid}
 use Rattle.rules.specs.ResultText.{result_text}
 use Rattle.theory.proofs.Demand3.{demand3}
 use Rattle.text.proofs.HandedLayers.{ReadsValid, handed_refused, handed_read, read_few, read_judged}
 use Rattle.demands.proofs.ResultSizes.{result_fits}
+use Rattle.loader.specs.Numbers.{as_number}
 use Rattle.loader.specs.Read.{outcome_of, Judged}
 use Rattle.loader.specs.Written.{Wrote}
 
@@ -36,6 +39,11 @@ module _ (s : Settings) (ps : List Piece) {r : Run} (same : r ≡ run s ps) wher
 -- what is promised of an answer, and of the buffer after it
 abbrev Promised : Outcome Layer → List ℕ → Outcome ℕ → List ℕ → Type 0
 Promised o buffer a after = (a ≡ length_of (decompose_read o buffer)) × (after ≡ buffer_after (decompose_read o buffer) buffer)
+
+-- where the text of its run was written, it is what was promised
+pub reading_run : (r : LayerRead) (buffer : List ℕ) → 4_096 ≤ length buffer → r.answer ≡ Ok tt
+    → {n : ℕ} {after : List ℕ} → Wrote (run r.settings (take r.count r.pieces)) buffer n after → Promised (outcome_of r) buffer (done n) after
+reading_run r buffer room e wrote = let yes = le-leb 4_096 (length buffer) room in (rw (yes, e, wrote.size), rw (yes, e) wrote.buffer)
 
 -- it is the outcome of the reading
 outcome_by : (o : Outcome Layer) (r : LayerRead) (a : Result (Unit {0}) Refused) → r.answer ≡ a → HandedBack o r → outcome_of r ≡ o
@@ -66,3 +74,12 @@ pub length_within : (o : Outcome (List ℕ)) (buffer : List ℕ) {n : ℕ} {afte
 length_within (done text) buffer {n} e written =
     let size : n ≡ length text = cc in omega (arith, ap length written, length-append text (drop (length text) buffer))
 length_within (refused number place) buffer e written = let z : ◌≡◌ {A = ℕ} 0 1 = cc in absurd (omega arith)
+
+-- ---- The number for C
+
+as_stated : (o : Outcome (List ℕ)) → as_number (length_of o) ≡ loader_number o
+as_stated (done text) = refl
+as_stated (refused number place) = refl
+
+pub loads : (o : Outcome (List ℕ)) {a : Outcome ℕ} → a ≡ length_of o → as_number a ≡ loader_number o
+loads o e = ap as_number e ∙ as_stated o
