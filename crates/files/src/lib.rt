@@ -57,6 +57,9 @@ pub fn read_file<'a>(
 
 // ---- arguments
 
+// Arguments are read one at a time into a lent buffer, and are bytes: the library's `args` copies all of them, however long, and fails where
+// one is not UTF-8.
+
 // How many arguments the program was started with, its own name among them. Nothing is promised of it: which there are is the system's
 // to say, and no contract can name them.
 pub fn argument_count(rt: &impl Env) -> usize {

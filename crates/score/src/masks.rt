@@ -46,7 +46,8 @@ impl Display for LineError {
     }
 }
 
-// Stores the masks at the front of the list, and answers that part of it. Lines for which there is no room are judged for their form alone.
+// Stores the masks at the front of the list, and answers that part of it. Lines for which there is no room are judged for their form alone. A text
+// may have more lines than the `Reader` of `lines` counts.
 pub fn read_masks<'a>(text: &[u8], masks: &'a mut [u8]) -> Result<&'a [u8], LineError>
     ensures { MatchResult result (λ stored. AllStored text.now (length masks.old) stored.now) (λ bad. BadLine text.now bad.line) }
 {
