@@ -1,5 +1,5 @@
 // What masks score by adjacency words (RULES 3). Only edges are visited, each from its greater number. An edge with an end that is not set counts for nothing. The
-// decomposition counts its result by this, and scoring stands on the count of one edge.
+// decomposition counts its result by this; the pass over pairs stands on what a pair's masks say, and scoring on what the counts cost.
 #![tactic(auto)]
 
 ghost use Rattle.std.specs.Prelude.{◌≡◌, ◌<◌, ◌≤◌, length};

@@ -1,5 +1,5 @@
 // The data of GDSII records: numbers in bytes, and the unit, rectangle and shape number that they state (RULES 16). The crate `gds_records`
-// asks of a record's data what is due, and `stream` takes the pieces from them.
+// asks of a record's data what is due, and `gds_elements` takes the pieces from them.
 #![tactic(auto)]
 
 mod rectangle;

@@ -9,8 +9,8 @@ use places::Lists;
 use rows::{Table, added_row};
 use rules::Piece;
 
-// The earlier neighbours of the places, the table of the weight and the fixed masks, how many places there are, and the cost at which the search
-// ends, if there is one (RULES 19).
+// The earlier neighbours of the places, the table of the weight and the fixed masks, how many places there are, what the run sets for each search,
+// and the cost at which this one ends, if there is one (RULES 19).
 #[derive(Drop)]
 pub struct Problem<'a> {
     pub lists: &'a Lists,

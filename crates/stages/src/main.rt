@@ -128,7 +128,7 @@ fn last_stages(
     Ok(length as u64)
 }
 
-// The cost by edges of pieces. The numbers are judged first, as a call on records does.
+// The cost by edges of pieces. The pieces are judged first, as a call on records does.
 fn edge_score(settings: Settings, pieces: &[Piece], masks: &[u8]) -> u64
     requires valid { Valid settings pieces.now }
     requires masks_len { length masks.now ≡ length pieces.now }
