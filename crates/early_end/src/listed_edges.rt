@@ -56,7 +56,8 @@ pub fn edge_counts(lists: &Lists, size: usize) -> [u64; 10]
     ]
 }
 
-// Whether place v has no stitch edge to an earlier place, and no conflict edge that is doubled.
+// Whether place v has no stitch edge to an earlier place, and no conflict edge that is doubled. Here and below by a loop, since the proof over
+// `all` did not close.
 fn place_listed(lists: &Lists, v: usize) -> bool
     requires v_bound { v < 512 }
     requires place_lists { PlaceLists lists.now.starts lists.now.entries v }

@@ -11,7 +11,7 @@ use places::Lists;
 use rows::{Table, added_row};
 use rules::Piece;
 
-// The mask of which the cost is least, the lowest on a tie.
+// The mask of which the cost is least, the lowest on a tie. By a loop, since the proof over an iterator's least did not close.
 fn cheapest_mask(costs: &[u32]) -> usize
     requires { 1 ≤ length costs.now }
     ensures { result ≡ cheapest (λ m. get_or costs.now m 0) (length costs.now) }

@@ -6,7 +6,7 @@ ghost use Rattle.places.specs.Local.{on_mask, local_added, PlaceLists};
 use crate::table::Table;
 use places::Lists;
 
-// Adds to each of eight costs.
+// Adds to each of eight costs, by index: of what `iter_mut` hands out a proof knows no element.
 fn add_each(sums: &mut [u32; 8], more: &[u32; 8])
     requires { (m : ℕ) → m < 8 → get_or sums.old m 0 + get_or more.now m 0 < 2 ^ 32 }
     ensures { (m : ℕ) → m < 8 → get_or sums.new m 0 ≡ get_or sums.old m 0 + get_or more.now m 0 }

@@ -1,4 +1,5 @@
-// The weight as a table, so that it is added to the costs of all eight masks at once, which needs no branch and no index into the costs.
+// The weight as a table, so that it is added to the costs of all eight masks at once, which needs no branch and no index into the costs; and beside it the
+// fixed masks of the places.
 ghost use Rattle.std.specs.Prelude.{◌≡◌, ◌≤◌, ◌<◌, length, get_or, take};
 ghost use Rattle.rules.specs.Settings.{unset};
 
