@@ -36,7 +36,8 @@ fn read(settings: &[u8], stream: &[u8]) -> Result<Layer, Refused>
     judge(settings, elements.pieces)
 }
 
-// The layer that a settings text and a stream state, or the first refusal and zeros.
+// The layer that a settings text and a stream state, or the first refusal and zeros. In a frame of its own, as the reading of a text is.
+#[inline(never)]
 pub fn read_stream(settings: &[u8], stream: &[u8]) -> LayerRead
     ensures { HandedBack (read_stream settings.now stream.now) result }
 {

@@ -68,7 +68,9 @@ pub fn hand_back(read: Result<Layer, Refused>) -> LayerRead
     }
 }
 
-// The layer that a text states, or the first refusal and zeros.
+// The layer that a text states, or the first refusal and zeros. In a frame of its own, so that what reading needs of the stack is free again when a
+// run begins.
+#[inline(never)]
 pub fn read_layer(text: &[u8]) -> LayerRead
     ensures { HandedBack (read_layer text.now) result }
 {
