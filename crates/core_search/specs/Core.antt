@@ -22,15 +22,15 @@ search_of g fixed component l p =
 
 -- the graph of units that the rules search
 abbrev pub graph_of : UnitGraph → Graph
-graph_of u = unit_graph u.edges.now.conflicts u.edges.now.stitches u.units.now u.n
+graph_of u = unit_graph u.edges.now.conflicts u.edges.now.stitches u.units.now (length u.units.now)
 
--- the edges of the first n pieces, and their units
+-- the edges of pieces, and their units
 pub record Sound (u : UnitGraph) : Type 0 where
   pub exclusive : Exclusive u.edges.now.conflicts u.edges.now.stitches
   pub conflicts : BothWays u.edges.now.conflicts
   pub stitches : BothWays u.edges.now.stitches
-  pub few : u.n ≤ 512
-  pub small : (i : ℕ) → i < u.n → unit_at u.units.now i < 512
+  pub few : length u.units.now ≤ 512
+  pub small : (i : ℕ) → i < length u.units.now → unit_at u.units.now i < 512
 
 -- what the search goes by, and of each vertex a place among the masks and a fixed mask that is one of them, where it has one
 pub record Given (fixed vertices : List ℕ) (l : Limits) (p : Progress) (result : List ℕ) : Type 0 where

@@ -2,6 +2,7 @@
 // are found on the edges of units; costs come from the edges of pieces. The decomposition stands on this crate.
 #![tactic(auto)]
 
+ghost use Rattle.std.specs.Prelude.{length};
 ghost use Rattle.core_search.specs.Core.{Sound, graph_of, Given, OneSearched, CoreSearched};
 ghost use Rattle.adjacency.specs.UnitGraph.{fixed_at};
 ghost use Rattle.units.specs.Merged.{Merged};
@@ -13,12 +14,11 @@ use places::Lists;
 use search::search_component;
 pub use search::{Limits, Progress};
 
-// The graph of units: the edges of the pieces below n, and the unit of each of these. The array of units has room for all pieces, and is lent on whole.
+// The graph of units: the edges of pieces, and the unit of each.
 #[derive(Clone, Copy)]
 pub struct UnitGraph<'a> {
     pub edges: &'a EdgeSets,
-    pub units: &'a [u16; 512],
-    pub n: usize,
+    pub units: &'a [u16],
 }
 
 // Searches one component, and puts its masks down at the units' numbers. `fixed` has the units' fixed masks. What was in the lists says nothing.
@@ -39,7 +39,7 @@ fn search_one(
     let order = order.as_slice();
     let own = places::local_fixed(order, fixed);
     let own = own.as_slice();
-    lists.lay_out(graph.edges, graph.units, graph.n, order);
+    lists.lay_out(graph.edges, graph.units, order);
     let end = library_end(lists, own, limits.masks, limits.weight);
     let best = search_component(lists, own, limits, end, progress);
     places::put_masks(order, &best.masks[..order.len()], res);
@@ -56,8 +56,8 @@ pub fn search_core(
     res: &mut [u8],
 )
     requires sound { Sound graph.now }
-    requires merged { Merged graph.now.edges.now.conflicts graph.now.units.now graph.now.n merged.now.conflicts }
-    requires merged_2 { Merged graph.now.edges.now.stitches graph.now.units.now graph.now.n merged.now.stitches }
+    requires merged { Merged graph.now.edges.now.conflicts graph.now.units.now (length graph.now.units.now) merged.now.conflicts }
+    requires merged_2 { Merged graph.now.edges.now.stitches graph.now.units.now (length graph.now.units.now) merged.now.stitches }
     requires given { Given fixed.now core.now limits progress.old res.old }
     ensures { CoreSearched (graph_of graph.now) (fixed_at fixed.now) core.now limits progress.old progress.new res.old res.new }
 {

@@ -25,7 +25,6 @@ use Rattle.rules.specs.Demands.{AgainstLarger}
 use Rattle.rules.specs.Questions.{Outcome, done, refused, Valid}
 use Rattle.rules.proofs.Finding.{find_same}
 use Rattle.rules.proofs.Lists.{◌∈◌, here, in_up_to}
-use Rattle.rules.proofs.Reading as reading
 use Rattle.rules.proofs.Validity.{sound_fixed, valid_sound}
 use Rattle.adjacency.specs.Adjacency.{Adjacency, word_graph}
 use Rattle.adjacency.specs.Members.{members_of}
@@ -34,6 +33,7 @@ use Rattle.adjacency.proofs.MemberLaws.{in_members}
 use Rattle.units.specs.Noted.{NotedMasks, fitting}
 use Rattle.units.specs.Numbered.{UnitsOf}
 use Rattle.units.proofs.SplitLaws.{one_splits}
+use Rattle.units.proofs.TieUnits.{few_pieces}
 use Rattle.fixed_masks.proofs.FixedLaws.{masks_length, fixed_asked}
 use Rattle.core_search.specs.declared.UnitGraph.{UnitGraph}
 use Rattle.core_search.specs.Core.{Sound}
@@ -53,10 +53,10 @@ passes_not : {number : ℕ} {place : Place} → ◌≡◌ {A = Outcome (Unit {0}
 passes_not e = let z : ◌≡◌ {A = ℕ} 0 1 = cc in omega arith
 
 module _ (s : Settings) (ps : List Piece) (valid : Valid s ps) where
-  pub few : length ps ≤ 512
-  few = reading.few (length ps) (valid_sound s ps valid).count
+  few : length ps ≤ 512
+  few = few_pieces s ps valid
 
-  module _ {conflicts stitches oldUnits units all : List ℕ} (adjacency : Adjacency s ps (length ps) conflicts stitches) (array : UnitsOf s ps oldUnits units all) where
+  module _ {conflicts stitches units all : List ℕ} (adjacency : Adjacency s ps (length ps) conflicts stitches) (array : UnitsOf s ps units all) where
     array_grouping : Grouping (unit_at units) (length ps)
     array_grouping = record {
       lower = λ i l. omega (arith, array.unit i l, (grouping s ps).lower i l);
@@ -66,13 +66,13 @@ module _ (s : Settings) (ps : List Piece) (valid : Valid s ps) where
     }
 
     -- the graph of units is fit to be searched
-    pub layer_sound : (u : UnitGraph) → u.edges.now.conflicts ≡ conflicts → u.edges.now.stitches ≡ stitches → u.units.now ≡ units → u.n ≡ length ps → Sound u
-    layer_sound u c t a e = record {
+    pub layer_sound : (u : UnitGraph) → u.edges.now.conflicts ≡ conflicts → u.edges.now.stitches ≡ stitches → u.units.now ≡ units → Sound u
+    layer_sound u c t a = record {
       exclusive = rw (c, t) (one_kind_each adjacency);
       conflicts = rw c (conflicts_both_ways adjacency);
       stitches = rw t (stitches_both_ways adjacency);
-      few = omega (arith, few);
-      small = λ i l. rw a (omega (arith, array_grouping.lower i (rw e at l), few));
+      few = rw (a, array.whole) few;
+      small = λ i l. let inside : i < length ps = rw (a, array.whole) at l in rw a (omega (arith, array_grouping.lower i inside, inside, few));
     }
 
     -- units have places in a list of as many masks as pieces
@@ -83,12 +83,12 @@ module _ (s : Settings) (ps : List Piece) (valid : Valid s ps) where
 
     -- the graph of the array's units is that of the layer's
     abbrev g : Graph
-    g = unit_graph conflicts stitches units (length ps)
+    g = unit_graph conflicts stitches units (length units)
 
     same_graph : (vs : List ℕ) → SameEdges g (merged_graph (unit_of s ps) (length ps) (graph_of s ps)) vs
     same_graph vs =
         let edges = layer_edges adjacency few in
-        record {
+        rw array.whole record {
           conflicts = λ u v _ _. between_same (unit_at units) (length ps) array.unit _ _ (λ i j l k. sym (edges.conflicts i j ((in_up_to (length ps) i).1 l) ((in_up_to (length ps) j).1 k))) u v;
           stitches = λ u v _ _. between_same (unit_at units) (length ps) array.unit _ _ (λ i j l k. sym (edges.stitches i j ((in_up_to (length ps) i).1 l) ((in_up_to (length ps) j).1 k))) u v;
         }
@@ -143,8 +143,8 @@ module _ (s : Settings) (ps : List Piece) (valid : Valid s ps) where
         found_size : length found ≡ length ps
         found_size = done.size ∙ long
 
-        pub found_few : length found ≤ 512
-        found_few = omega (arith, found_size, few)
+        pub found_within : length found ≤ length units
+        found_within = omega (arith, found_size, array.whole)
 
         pub found_grouping : Grouping (unit_at units) (length found)
         found_grouping = subst (Grouping (unit_at units)) (sym found_size) array_grouping

@@ -14,8 +14,8 @@ use core_search::UnitGraph;
 use rules::{Decomposition, Piece, Settings};
 
 // Gives each piece its unit's mask. A unit's number is no higher than its pieces and has its own mask already.
-fn spread_masks(units: &[u16; 512], masks: &mut [u8])
-    requires masks_len_bound { length masks.old ≤ 512 }
+fn spread_masks(units: &[u16], masks: &mut [u8])
+    requires units_len { length masks.old ≤ length units.now }
     requires grouping { Grouping (unit_at units.now) (length masks.old) }
     ensures { masks.new ≡ spread (unit_at units.now) (length masks.old) masks.old }
 {
@@ -25,6 +25,7 @@ fn spread_masks(units: &[u16; 512], masks: &mut [u8])
 }
 
 // The run.
+#[tactic(auto, using(units::proofs::TieUnits::few_pieces, units::proofs::TieUnits::new_front))]
 pub fn decompose(settings: Settings, pieces: &[Piece], masks: &mut [u8]) -> Decomposition
     requires valid { Valid settings pieces.now }
     requires masks_len { length masks.old ≡ length pieces.now }
@@ -33,17 +34,17 @@ pub fn decompose(settings: Settings, pieces: &[Piece], masks: &mut [u8]) -> Deco
 {
     let mut edges = EdgeSets::empty();
     let mut units = [0u16; 512];
-    let all = units::layer_units(settings, pieces, &mut edges, &mut units);
+    let units = &mut units[..pieces.len()];
+    let all = units::layer_units(settings, pieces, &mut edges, units);
     let mut noted = [Piece::UNSET; 512];
     let given = units::fixed_masks_of(pieces);
-    units::note_masks(&units, &given[..pieces.len()], &mut noted);
+    units::note_masks(units, &given[..pieces.len()], &mut noted);
     let graph = UnitGraph {
         edges: &edges,
-        units: &units,
-        n: pieces.len(),
+        units,
     };
     let searched = decompose_units(settings, &graph, &noted, &all, masks);
-    spread_masks(&units, masks);
+    spread_masks(units, masks);
     let score = counting::score_edges(settings.weight, &edges, masks);
     Decomposition {
         conflicts: score.conflicts,

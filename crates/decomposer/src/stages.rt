@@ -1,5 +1,5 @@
 // The stages on the graph of units, one call each.
-ghost use Rattle.std.specs.Prelude.{true, ◌≡◌};
+ghost use Rattle.std.specs.Prelude.{true, ◌≡◌, length};
 ghost use Rattle.rules.specs.Decomposition.{verdict_of};
 ghost use Rattle.rules.specs.Settings.{settings_in_range};
 ghost use Rattle.adjacency.specs.UnitGraph.{fixed_at};
@@ -42,8 +42,8 @@ fn search(
 ) -> Searched
     requires settings_value { settings_in_range settings ≡ true }
     requires sound { Sound graph.now }
-    requires merged { Merged graph.now.edges.now.conflicts graph.now.units.now graph.now.n merged.now.conflicts }
-    requires merged_2 { Merged graph.now.edges.now.stitches graph.now.units.now graph.now.n merged.now.stitches }
+    requires merged { Merged graph.now.edges.now.conflicts graph.now.units.now (length graph.now.units.now) merged.now.conflicts }
+    requires merged_2 { Merged graph.now.edges.now.stitches graph.now.units.now (length graph.now.units.now) merged.now.stitches }
     requires has_places { HasPlaces core.now masks.old }
     requires has_fixed { HasFixed settings.masks fixed.now core.now }
     ensures { SearchedCore settings (graph_of graph.now) (fixed_at fixed.now) core.now masks.old masks.new result }
@@ -75,7 +75,7 @@ pub fn decompose_units(
     ensures { Decomposed settings (graph_of graph.now) (fixed_at fixed.now) all.now masks.old masks.new result }
 {
     let mut merged = EdgeSets::empty();
-    units::merge_edges(graph.edges, graph.units, graph.n, &mut merged);
+    units::merge_edges(graph.edges, graph.units, &mut merged);
     let mut there = *all;
     let removals = reduction::peel(settings.masks, &merged, fixed, &mut there);
     masks.fill(0);

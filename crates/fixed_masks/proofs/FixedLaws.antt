@@ -26,7 +26,7 @@ module _ (s : Settings) (ps : List Piece) where
       then_with (ask (count_in_range (length ps)) 4 Place.Nothing) _ tt e λ _ q _.
       few (length ps) (ask_yes (count_in_range (length ps)) 4 Place.Nothing q)
 
-  pub fixed_asked : {before units numbers : List ℕ} → UnitsOf s ps before units numbers
+  pub fixed_asked : {units numbers : List ℕ} → UnitsOf s ps units numbers
       → judge_fixed s ps ≡ ask_each (split_question 14 (unit_at units) (length (fixed_masks ps)) (fixed_masks ps)) (length (fixed_masks ps))
   fixed_asked {units} numbered =
       judged_lowest s ps

@@ -16,11 +16,12 @@ fn judge_units(settings: Settings, pieces: &[Piece]) -> Result<(), Refused>
 {
     let mut ties = Matrix::empty();
     let mut units = [0u16; 512];
+    let units = &mut units[..pieces.len()];
     let mut noted = [Piece::UNSET; 512];
     adjacency::tie_words(settings, pieces, &mut ties);
-    units::number_units(&ties, pieces.len(), &mut units);
+    units::number_units(&ties, units);
     let masks = units::fixed_masks_of(pieces);
-    match units::note_masks(&units, &masks[..pieces.len()], &mut noted) {
+    match units::note_masks(units, &masks[..pieces.len()], &mut noted) {
         Some(first) => Err(Refusal::FixedSplit.at(Place::Piece(first as u32))),
         None => Ok(()),
     }

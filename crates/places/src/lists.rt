@@ -41,20 +41,20 @@ impl Lists {
         &self.entries[self.starts[2 * k + 1] as usize..self.starts[2 * k + 2] as usize]
     }
 
-    // Lays out the places, whose units are those of `order`. A unit's pieces are those below n that `units` gives it: the graph of units is one of an
-    // array and a length, so both are passed. Inlined, its sets would stand on the stack while the search goes from place to place.
+    // Lays out the places, whose units are those of `order`. A unit's pieces are those that `units` gives it. Inlined, its sets would stand on the
+    // stack while the search goes from place to place.
     #[inline(never)]
-    pub fn lay_out(&mut self, edges: &EdgeSets, units: &[u16; 512], n: usize, order: &[u16])
-        requires size_bound { (length order.now ≤ 512) × (n ≤ 512) }
+    pub fn lay_out(&mut self, edges: &EdgeSets, units: &[u16], order: &[u16])
+        requires size_bound { (length order.now ≤ 512) × (length units.now ≤ 512) }
         requires by_index { (i : ℕ) → i < length order.now → get_or order.now i 0 < 512 }
         requires by_index_2 { (i j : ℕ) → i < j → j < length order.now → get_or order.now i 0 < get_or order.now j 0 }
-        requires by_index_3 { (i : ℕ) → i < n → unit_at units.now i < 512 }
+        requires by_index_3 { (i : ℕ) → i < length units.now → unit_at units.now i < 512 }
         requires exclusive { Exclusive edges.now.conflicts edges.now.stitches }
         requires both_ways { BothWays edges.now.conflicts × BothWays edges.now.stitches }
-        ensures { LaidOut edges.now.conflicts edges.now.stitches units.now n order.now (length order.now) self.new.starts self.new.entries }
+        ensures { LaidOut edges.now.conflicts edges.now.stitches units.now (length units.now) order.now (length order.now) self.new.starts self.new.entries }
     {
         let mut of_units = [BitSet::empty(); 512];
-        pieces_of_units(units, n, &mut of_units);
+        pieces_of_units(units, &mut of_units);
         let mut earlier = BitSet::empty();
         let mut seats = [0u16; 512];
         self.starts[0] = 0;

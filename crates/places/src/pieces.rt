@@ -7,15 +7,15 @@ ghost use Rattle.places.specs.Seats.{Seated};
 
 use bitset::BitSet;
 
-// Puts the pieces below n into the sets of their units, which are lent empty: an array of sets that is handed back would be copied.
-pub fn pieces_of_units(units: &[u16; 512], n: usize, pieces: &mut [BitSet; 512])
-    requires n_bound { n ≤ 512 }
-    requires by_index { (i : ℕ) → i < n → unit_at units.now i < 512 }
+// Puts the pieces into the sets of their units, which are lent empty: an array of sets that is handed back would be copied.
+pub fn pieces_of_units(units: &[u16], pieces: &mut [BitSet; 512])
+    requires few { length units.now ≤ 512 }
+    requires by_index { (i : ℕ) → i < length units.now → unit_at units.now i < 512 }
     requires empty { (u q : ℕ) → u < 512 → member (get_or pieces.old u []) q ≡ false }
     ensures all { length pieces.new ≡ 512 }
-    ensures sorted { (u q : ℕ) → u < 512 → member (get_or pieces.new u []) q ≡ (ltb q n && eqb (unit_at units.now q) u) }
+    ensures sorted { (u q : ℕ) → u < 512 → member (get_or pieces.new u []) q ≡ (ltb q (length units.now) && eqb (unit_at units.now q) u) }
 {
-    for (q, unit) in units[..n].iter().enumerate() {
+    for (q, unit) in units.iter().enumerate() {
         pieces[usize::from(*unit)].put(q);
     }
 }

@@ -23,7 +23,7 @@ mask_asked limit masks i = by_test (eqb (mask_of masks i) unset) (λ e. rw e) (�
 
 -- ---- 12, by an array of units
 
-module _ (s : Settings) (ps : List Piece) (masks : List ℕ) (long : length masks ≡ length ps) {before units numbers : List ℕ} (numbered : UnitsOf s ps before units numbers) where
+module _ (s : Settings) (ps : List Piece) (masks : List ℕ) (long : length masks ≡ length ps) {units numbers : List ℕ} (numbered : UnitsOf s ps units numbers) where
   -- each piece's unit has a mask
   pub unit_masked : (i : ℕ) → i < length masks → unit_at units i < length masks
   unit_masked i l = omega (arith, unit_inside s ps numbered i (omega arith))

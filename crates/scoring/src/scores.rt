@@ -32,8 +32,9 @@ fn judge_masks(limit: u32, masks: &[u8]) -> Result<(), Refused>
 }
 
 // Question 12: each set piece has the mask of its unit's lowest set piece.
-fn judge_units(units: &[u16; 512], masks: &[u8]) -> Result<(), Refused>
+fn judge_units(units: &[u16], masks: &[u8]) -> Result<(), Refused>
     requires masks_len_bound { length masks.now ≤ 512 }
+    requires units_len { length masks.now ≤ length units.now }
     requires by_index { (i : ℕ) → i < length masks.now → unit_at units.now i < length masks.now }
     ensures { answer_of result ≡ ask_each (unit_question (unit_at units.now) (length masks.now) masks.now) (length masks.now) }
 {
@@ -62,6 +63,7 @@ fn scoring_of(weight: u32, tally: Tally) -> Scoring
 }
 
 // The score of masks on a judged layer, or refusal 12.
+#[tactic(auto, using(units::proofs::TieUnits::few_pieces, units::proofs::TieUnits::new_front))]
 fn score_units(settings: Settings, pieces: &[Piece], masks: &[u8]) -> Result<Scoring, Refused>
     requires valid { Valid settings pieces.now }
     requires masks_len { length masks.now ≡ length pieces.now }
@@ -69,9 +71,10 @@ fn score_units(settings: Settings, pieces: &[Piece], masks: &[u8]) -> Result<Sco
 {
     let mut ties = Matrix::empty();
     let mut units = [0u16; 512];
+    let units = &mut units[..pieces.len()];
     let tally = test_pairs(settings, pieces, masks, &mut ties);
-    units::number_units(&ties, pieces.len(), &mut units);
-    judge_units(&units, masks)?;
+    units::number_units(&ties, units);
+    judge_units(units, masks)?;
     Ok(scoring_of(settings.weight, tally))
 }
 

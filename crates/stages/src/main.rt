@@ -68,22 +68,23 @@ fn first_word(edges: &Matrix) -> u64 {
 }
 
 // Stages 3 to 6 of a judged layer.
+#[tactic(auto, using(units::proofs::TieUnits::few_pieces, units::proofs::TieUnits::new_front))]
 fn first_stages(last: Stage, settings: Settings, pieces: &[Piece], masks: &mut [u8]) -> u64
     requires valid { Valid settings pieces.now }
     requires masks_len { length masks.old ≡ length pieces.now }
 {
-    let n = pieces.len();
     let mut edges = EdgeSets::empty();
     let mut units = [0u16; 512];
-    let mut core = units::layer_units(settings, pieces, &mut edges, &mut units);
+    let units = &mut units[..pieces.len()];
+    let mut core = units::layer_units(settings, pieces, &mut edges, units);
     let given = units::fixed_masks_of(pieces);
     let mut fixed = [Piece::UNSET; 512];
-    units::note_masks(&units, &given[..n], &mut fixed);
+    units::note_masks(units, &given[..pieces.len()], &mut fixed);
     if last == Stage::Edges {
         return first_word(&edges.conflicts);
     }
     let mut merged = EdgeSets::empty();
-    units::merge_edges(&edges, &units, n, &mut merged);
+    units::merge_edges(&edges, units, &mut merged);
     if last == Stage::UnitEdges {
         return first_word(&merged.conflicts);
     }
@@ -98,8 +99,7 @@ fn first_stages(last: Stage, settings: Settings, pieces: &[Piece], masks: &mut [
     };
     let graph = UnitGraph {
         edges: &edges,
-        units: &units,
-        n,
+        units,
     };
     core_search::search_core(&graph, &merged, &fixed, &core, limits, &mut progress, masks);
     progress.left
@@ -129,6 +129,7 @@ fn last_stages(
 }
 
 // The cost by edges of pieces. The pieces are judged first, as a call on records does.
+#[tactic(auto, using(units::proofs::TieUnits::few_pieces, units::proofs::TieUnits::new_front))]
 fn edge_score(settings: Settings, pieces: &[Piece], masks: &[u8]) -> u64
     requires valid { Valid settings pieces.now }
     requires masks_len { length masks.now ≡ length pieces.now }
@@ -138,7 +139,8 @@ fn edge_score(settings: Settings, pieces: &[Piece], masks: &[u8]) -> u64
     }
     let mut edges = EdgeSets::empty();
     let mut units = [0u16; 512];
-    units::layer_units(settings, pieces, &mut edges, &mut units);
+    let units = &mut units[..pieces.len()];
+    units::layer_units(settings, pieces, &mut edges, units);
     u64::from(counting::score_edges(settings.weight, &edges, masks).cost)
 }
 

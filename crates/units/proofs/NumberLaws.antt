@@ -7,7 +7,7 @@ use Prim.Native.Nat.{ℕ, ◌≤◌, ◌<◌}
 use native.Mathlib.Omega.{arith}
 use lib.Dec.{eqb, ltb}
 use lib.ListN.{length}
-use borrow.Author.Tests.{ne_eqb, lt-ltb, le-ltb}
+use borrow.Author.Tests.{ne_eqb, lt-ltb}
 use Rattle.bitset.specs.Bits.{member, First, Empty}
 use Rattle.rules.specs.Basics.{up_to, keep}
 use Rattle.rules.specs.Edges.{Graph}
@@ -25,33 +25,31 @@ use Rattle.units.specs.Numbered.{Numbered}
 use Rattle.units.specs.Steps.{GivenNumber}
 
 -- Of the pieces in `all` those in `rest` have yet to be numbered. The others have their numbers, and `numbers` has those that are units' numbers.
-pub record Numbering (tieWords all before units numbers rest : List ℕ) : Type 0 where
-  pub whole : length units ≡ 512
+pub record Numbering (tieWords all : List ℕ) (n : ℕ) (units numbers rest : List ℕ) : Type 0 where
+  pub whole : length units ≡ n
   pub within : (k : ℕ) → k < 512 → member rest k ≡ true → member all k ≡ true
   pub unit : (i : ℕ) → i < 512 → member all i ≡ true
       → cond (member rest i) (part_of (components (word_graph tieWords tieWords) (members_of rest)) i) (unit_at units i)
       ≡ part_of (components (word_graph tieWords tieWords) (members_of all)) i
-  pub past : (i : ℕ) → (i < 512 → member all i ≡ false) → unit_at units i ≡ unit_at before i
   pub numbers_so_far : (k : ℕ) → k < 512 → member numbers k ≡ (member all k && not (member rest k) && eqb (unit_at units k) k)
 
 -- none is numbered
-pub numbering_none : (tieWords all before : List ℕ) {numbers : List ℕ} → length before ≡ 512 → Empty numbers → Numbering tieWords all before before numbers all
-numbering_none tieWords all before {numbers} e empty = record {
-  whole = e;
+pub numbering_none : (tieWords all units : List ℕ) {numbers : List ℕ} → Empty numbers → Numbering tieWords all (length units) units numbers all
+numbering_none tieWords all units {numbers} empty = record {
+  whole = refl;
   within = λ k h m. m;
   unit = λ i h m. rw m;
-  past = λ i h. refl;
   numbers_so_far = λ k h. empty.none k ∙ by_test (member all k) (λ m. rw m) (λ m. rw m);
 }
 
-module _ {tieWords all before units numbers rest : List ℕ} (numbering : Numbering tieWords all before units numbers rest) where
+module _ {tieWords all units numbers rest : List ℕ} {n : ℕ} (numbering : Numbering tieWords all n units numbers rest) where
   abbrev g : Graph
   g = word_graph tieWords tieWords
 
   -- all are numbered
-  pub numbering_all : {n : ℕ} → n ≤ 512 → ((k : ℕ) → member all k ≡ ltb k n) → ((k : ℕ) → k < 512 → member rest k ≡ false) → Numbered tieWords n before units numbers
+  pub numbering_all : n ≤ 512 → ((k : ℕ) → member all k ≡ ltb k n) → ((k : ℕ) → k < 512 → member rest k ≡ false) → Numbered tieWords n units numbers
   unfolding members_of
-  numbering_all {n} few below none =
+  numbering_all few below none =
       let pieces : members_of all ≡ up_to n = members_below all n few below in
       record {
         whole = numbering.whole;
@@ -59,7 +57,6 @@ module _ {tieWords all before units numbers rest : List ℕ} (numbering : Number
             let done : unit_at units i ≡ part_of (components g (members_of all)) i
             = rw (none i (omega arith)) at (numbering.unit i (omega arith) (below i ∙ lt-ltb i n h)) in
             done ∙ ap (λ (xs : List ℕ). part_of (components g xs) i) pieces;
-        past = λ i h. numbering.past i (λ _. below i ∙ le-ltb i n h);
         numbers =
             keep_same (member numbers) (λ k. member all k && eqb (unit_at units k) k) (up_to 512)
             (λ k m.
@@ -96,9 +93,9 @@ module _ {tieWords all before units numbers rest : List ℕ} (numbering : Number
       other : member unit k ≡ false → (member rest' k ≡ member rest k) × (unit_at units' k ≡ unit_at units k)
       other m = (gone k h ∙ rw m (and-true (member rest k)), given.others k (λ _. m))
 
-    pub numbering_next : Numbering tieWords all before units' numbers' rest'
+    pub numbering_next : Numbering tieWords all n units' numbers' rest'
     numbering_next = record {
-      whole = given.whole;
+      whole = given.whole ∙ numbering.whole;
       within = λ k h e. numbering.within k h (both (member rest k) (not (member unit k)) (sym (gone k h) ∙ e)).0;
       unit = λ i h m. by_test (member unit i)
           (λ e.
@@ -107,7 +104,6 @@ module _ {tieWords all before units numbers rest : List ℕ} (numbering : Number
           (λ e.
           let (s, n) = other i h e in
           rw (s, n, sym (rw e at (by_units i h))) (numbering.unit i h m));
-      past = λ i h. given.others i (λ l. not_before (λ e. numbering.within i l (is.within i l e)) (h l)) ∙ numbering.past i h;
       numbers_so_far = λ k h. put k ∙ by_test (member unit k)
           (λ e.
           let (r, s, n) = one k h e in

@@ -36,7 +36,7 @@ module _ {unit : ℕ → ℕ} {masks noted : List ℕ} (number : ℕ) where
       let (l, stops, before) = first.misfit in
       each_refused _ (length masks) {i = r} l (each_passes _ r (λ i h. rw (before i h))) (rw stops)
 
-module _ (s : Settings) (ps : List Piece) {before units numbers : List ℕ} (numbered : UnitsOf s ps before units numbers) where
+module _ (s : Settings) (ps : List Piece) {units numbers : List ℕ} (numbered : UnitsOf s ps units numbers) where
   -- each piece's unit is one of the pieces
   pub unit_inside : (i : ℕ) → i < length ps → unit_at units i < length ps
   unit_inside i l = omega (arith, numbered.unit i l, (grouping s ps).lower i l)

@@ -3,22 +3,37 @@ use mathlib.Core.Bool.{or_self}
 use mathlib.Core.List.{List}
 use mathlib.Core.Path.{◌≡◌, ap, ◌∙◌}
 use Prim.Native.Nat.{ℕ, ◌≤◌, ◌<◌}
-use lib.ListN.{length}
+use lib.ListN.{length, take, replicate}
+use lib.Seq.{length-take-le}
 use Rattle.rules.specs.declared.layer.Settings.{Settings}
 use Rattle.rules.specs.declared.layer.Piece.{Piece}
 use Rattle.rules.specs.Basics.{up_to}
 use Rattle.rules.specs.Settings.{piece_at}
 use Rattle.rules.specs.Edges.{tied}
 use Rattle.rules.specs.Components.{components}
+use Rattle.rules.specs.Questions.{Valid}
 use Rattle.rules.specs.Units.{tie_graph, units_of, unit_of, part_of}
 use Rattle.rules.proofs.Edges.{tie_sym}
 use Rattle.rules.proofs.Lists.{in_up_to}
+use Rattle.rules.proofs.Reading.{few}
+use Rattle.rules.proofs.Validity.{valid_sound}
 use Rattle.adjacency.specs.Adjacency.{Ties, word_graph, BothWays}
 use Rattle.adjacency.specs.UnitGraph.{unit_at}
 use Rattle.adjacency.proofs.AdjacencyLaws.{words_symmetric, words_edges}
 use Rattle.theory.proofs.Merging.{numbers_same}
 use Rattle.theory.proofs.Neighbours.{SameJoined, components_same}
 use Rattle.units.specs.Numbered.{Numbered, UnitsOf}
+
+-- the front of a new array
+front_length : (n : ℕ) → n ≤ 512 → length (take n (replicate {A = ℕ} 512 0)) ≡ n
+front_length n few = length-take-le n (replicate 512 0) few
+
+-- a judged layer has few pieces, and the front of a new array has room for a number of each
+pub few_pieces : (s : Settings) (ps : List Piece) → Valid s ps → length ps ≤ 512
+few_pieces s ps valid = few (length ps) (valid_sound s ps valid).count
+
+pub new_front : (s : Settings) (ps : List Piece) → Valid s ps → length (take (length ps) (replicate {A = ℕ} 512 0)) ≡ length ps
+new_front s ps valid = front_length (length ps) (few_pieces s ps valid)
 
 module _ (s : Settings) (ps : List Piece) {ties : List ℕ} (holds : Ties s ps (length ps) ties) where
   pub ties_ways : BothWays ties
@@ -34,12 +49,15 @@ module _ (s : Settings) (ps : List Piece) {ties : List ℕ} (holds : Ties s ps (
     units_same : components (word_graph ties ties) (up_to (length ps)) ≡ units_of s ps
     units_same = components_same (up_to (length ps)) ties_joined
 
-    pub layer_numbered : {before units numbers : List ℕ} → Numbered ties (length ps) before units numbers → UnitsOf s ps before units numbers
+    pub layer_numbered : {units numbers : List ℕ} → Numbered ties (length ps) units numbers → UnitsOf s ps units numbers
     layer_numbered {units} numbered =
         let unit : (i : ℕ) → i < length ps → unit_at units i ≡ unit_of s ps i = λ i h. numbered.unit i h ∙ ap (λ (cs : List (List ℕ)). part_of cs i) units_same in
         record {
           whole = numbered.whole;
           unit = unit;
-          past = numbered.past;
           numbers = numbered.numbers ∙ numbers_same (unit_at units) (length ps) unit;
         }
+
+    -- the same where the numbers stand in the front of a new array
+    pub front_numbered : {units numbers : List ℕ} → Numbered ties (length (take (length ps) (replicate {A = ℕ} 512 0))) units numbers → UnitsOf s ps units numbers
+    front_numbered numbered = layer_numbered (rw (front_length (length ps) few) at numbered)

@@ -1,5 +1,5 @@
 -- What numbering the units leaves. Assumes nothing: these are definitions.
-use Rattle.std.specs.Prelude.{List, ◌≡◌, ℕ, ◌≤◌, ◌<◌, length}
+use Rattle.std.specs.Prelude.{List, ◌≡◌, ℕ, ◌<◌, length}
 use Rattle.rules.specs.declared.layer.Settings.{Settings}
 use Rattle.rules.specs.declared.layer.Piece.{Piece}
 use Rattle.rules.specs.Basics.{up_to}
@@ -9,17 +9,14 @@ use Rattle.adjacency.specs.Adjacency.{word_graph}
 use Rattle.adjacency.specs.Members.{members_of}
 use Rattle.adjacency.specs.UnitGraph.{unit_at}
 
--- The first n pieces have the numbers of their units, which are the components that the words join; the set has the units' numbers. What the array has past n
--- stays.
-pub record Numbered (tieWords : List ℕ) (n : ℕ) (before units numberSet : List ℕ) : Type 0 where
-  pub whole : length units ≡ 512
+-- The n pieces have the numbers of their units, which are the components that the words join; the set has the units' numbers.
+pub record Numbered (tieWords : List ℕ) (n : ℕ) (units numberSet : List ℕ) : Type 0 where
+  pub whole : length units ≡ n
   pub unit : (i : ℕ) → i < n → unit_at units i ≡ part_of (components (word_graph tieWords tieWords) (up_to n)) i
-  pub past : (i : ℕ) → n ≤ i → unit_at units i ≡ unit_at before i
   pub numbers : members_of numberSet ≡ unit_numbers (unit_at units) n
 
 -- the units of a layer's pieces, and the set of their numbers
-pub record UnitsOf (s : Settings) (ps : List Piece) (before units numberSet : List ℕ) : Type 0 where
-  pub whole : length units ≡ 512
+pub record UnitsOf (s : Settings) (ps : List Piece) (units numberSet : List ℕ) : Type 0 where
+  pub whole : length units ≡ length ps
   pub unit : (i : ℕ) → i < length ps → unit_at units i ≡ unit_of s ps i
-  pub past : (i : ℕ) → length ps ≤ i → unit_at units i ≡ unit_at before i
   pub numbers : members_of numberSet ≡ unit_numbers (unit_of s ps) (length ps)

@@ -7,7 +7,7 @@ use Rattle.adjacency.specs.UnitGraph.{unit_at}
 
 -- the members of a set were given a number, and no other piece was
 pub record GivenNumber (members : List ℕ) (number : ℕ) (before after : List ℕ) : Type 0 where
-  pub whole : length after ≡ 512
+  pub whole : length after ≡ length before
   pub inside : (k : ℕ) → k < 512 → member members k ≡ true → unit_at after k ≡ number
   pub others : (k : ℕ) → (k < 512 → member members k ≡ false) → unit_at after k ≡ unit_at before k
 

@@ -1,5 +1,5 @@
 // The edges of units, from those of pieces. Only edges are visited, each from its greater piece.
-ghost use Rattle.std.specs.Prelude.{◌||◌, ◌≡◌, ℕ, ◌≤◌, ◌<◌};
+ghost use Rattle.std.specs.Prelude.{◌||◌, ◌≡◌, ℕ, ◌≤◌, ◌<◌, length};
 ghost use Rattle.bitset.specs.Bits.{has_edge};
 ghost use Rattle.adjacency.specs.UnitGraph.{unit_at};
 ghost use Rattle.adjacency.specs.Adjacency.{BothWays};
@@ -21,8 +21,9 @@ fn join_units(merged: &mut Matrix, x: usize, y: usize)
 }
 
 // Joins the unit of piece j to those of its neighbours before it.
-fn merge_row(words: &Matrix, units: &[u16; 512], j: usize, merged: &mut Matrix)
-    requires j_bound { j < 512 }
+fn merge_row(words: &Matrix, units: &[u16], j: usize, merged: &mut Matrix)
+    requires few { length units.now ≤ 512 }
+    requires j_bound { j < length units.now }
     requires by_index { (i : ℕ) → i ≤ j → unit_at units.now i < 512 }
     ensures { MergedRow words.now units.now j merged.old merged.new }
 {
@@ -32,28 +33,28 @@ fn merge_row(words: &Matrix, units: &[u16; 512], j: usize, merged: &mut Matrix)
     }
 }
 
-// Fills the words of units from those of the first n pieces, whatever was in them.
-fn merge_words(words: &Matrix, units: &[u16; 512], n: usize, merged: &mut Matrix)
-    requires n_bound { n ≤ 512 }
-    requires by_index { (i : ℕ) → i < n → unit_at units.now i < 512 }
+// Fills the words of units from those of the pieces that have one, whatever was in them.
+fn merge_words(words: &Matrix, units: &[u16], merged: &mut Matrix)
+    requires few { length units.now ≤ 512 }
+    requires by_index { (i : ℕ) → i < length units.now → unit_at units.now i < 512 }
     requires both_ways { BothWays words.now }
-    ensures { Merged words.now units.now n merged.new }
+    ensures { Merged words.now units.now (length units.now) merged.new }
 {
     merged.clear();
-    for j in 0..n {
+    for j in 0..units.len() {
         merge_row(words, units, j, merged);
     }
 }
 
-// Fills the edges of units from those of the first n pieces, whatever was in them.
-pub fn merge_edges(edges: &EdgeSets, units: &[u16; 512], n: usize, merged: &mut EdgeSets)
-    requires n_bound { n ≤ 512 }
-    requires by_index { (i : ℕ) → i < n → unit_at units.now i < 512 }
+// Fills the edges of units from those of the pieces that have one, whatever was in them.
+pub fn merge_edges(edges: &EdgeSets, units: &[u16], merged: &mut EdgeSets)
+    requires few { length units.now ≤ 512 }
+    requires by_index { (i : ℕ) → i < length units.now → unit_at units.now i < 512 }
     requires conflict_ways { BothWays edges.now.conflicts }
     requires stitch_ways { BothWays edges.now.stitches }
-    ensures conflicts { Merged edges.now.conflicts units.now n merged.new.conflicts }
-    ensures stitches { Merged edges.now.stitches units.now n merged.new.stitches }
+    ensures conflicts { Merged edges.now.conflicts units.now (length units.now) merged.new.conflicts }
+    ensures stitches { Merged edges.now.stitches units.now (length units.now) merged.new.stitches }
 {
-    merge_words(&edges.conflicts, units, n, &mut merged.conflicts);
-    merge_words(&edges.stitches, units, n, &mut merged.stitches);
+    merge_words(&edges.conflicts, units, &mut merged.conflicts);
+    merge_words(&edges.stitches, units, &mut merged.stitches);
 }

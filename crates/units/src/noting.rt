@@ -33,8 +33,9 @@ fn fits_noted(noted: &mut [u8; 512], unit: usize, mask: u8) -> bool
 }
 
 // Notes the mask of each unit, whatever was noted. Answers the first piece that is set to another mask than its unit's lowest set piece.
-pub fn note_masks(units: &[u16; 512], masks: &[u8], noted: &mut [u8; 512]) -> Option<usize>
+pub fn note_masks(units: &[u16], masks: &[u8], noted: &mut [u8; 512]) -> Option<usize>
     requires masks_len_bound { length masks.now ≤ 512 }
+    requires units_len { length masks.now ≤ length units.now }
     requires by_index { (i : ℕ) → i < length masks.now → unit_at units.now i < length masks.now }
     ensures { NotedMasks (unit_at units.now) masks.now noted.new result }
 {

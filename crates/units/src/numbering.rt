@@ -1,6 +1,7 @@
 // The unit of each piece. Units are the components of the ties, and a unit's number is its lowest piece. Each row of ties is looked at once and each
 // piece is numbered once, however long a chain of ties is.
-ghost use Rattle.std.specs.Prelude.{◌≤◌, ◌<◌, length};
+ghost use Rattle.std.specs.Prelude.{true, ◌≡◌, ℕ, ◌≤◌, ◌<◌, length};
+ghost use Rattle.bitset.specs.Bits.{member};
 ghost use Rattle.rules.specs.Questions.{Valid};
 ghost use Rattle.adjacency.specs.Adjacency.{Adjacency, BothWays};
 ghost use Rattle.units.specs.Steps.{GivenNumber};
@@ -11,8 +12,9 @@ use bitset::{BitSet, Matrix};
 use rules::{Piece, Settings};
 
 // Gives every member of a unit its number.
-fn give_number(members: &BitSet, number: usize, units: &mut [u16; 512])
-    requires { number < 512 }
+fn give_number(members: &BitSet, number: usize, units: &mut [u16])
+    requires number_bound { number < 512 }
+    requires inside { (k : ℕ) → k < 512 → member members.now k ≡ true → k < length units.old }
     ensures { GivenNumber members.now number units.old units.new }
 {
     for i in members.members() {
@@ -20,14 +22,14 @@ fn give_number(members: &BitSet, number: usize, units: &mut [u16; 512])
     }
 }
 
-// Numbers the units of the first n pieces by the words of ties. Answers the set of the units' numbers.
-pub fn number_units(ties: &Matrix, n: usize, units: &mut [u16; 512]) -> BitSet
-    requires n_bound { n ≤ 512 }
+// Gives each piece the number of its unit, by the words of ties. Answers the set of the units' numbers.
+pub fn number_units(ties: &Matrix, units: &mut [u16]) -> BitSet
+    requires few { length units.old ≤ 512 }
     requires both_ways { BothWays ties.now }
-    ensures { Numbered ties.now n units.old units.new result }
+    ensures { Numbered ties.now (length units.old) units.new result }
 {
     let mut numbers = BitSet::empty();
-    let mut rest = BitSet::below(n);
+    let mut rest = BitSet::below(units.len());
     while let Some(v) = rest.lowest() {
         let unit = components::component(ties, ties, &rest, v);
         give_number(&unit, v, units);
@@ -38,17 +40,19 @@ pub fn number_units(ties: &Matrix, n: usize, units: &mut [u16; 512]) -> BitSet
 }
 
 // Fills the words of edges of a judged layer, and numbers its units. Answers the set of the units' numbers.
+#[tactic(auto, using(crate::proofs::TieUnits::few_pieces))]
 pub fn layer_units(
     settings: Settings,
     pieces: &[Piece],
     edges: &mut EdgeSets,
-    units: &mut [u16; 512],
+    units: &mut [u16],
 ) -> BitSet
-    requires { Valid settings pieces.now }
+    requires valid { Valid settings pieces.now }
+    requires units_len { length units.old ≡ length pieces.now }
     ensures adjacency { Adjacency settings pieces.now (length pieces.now) edges.new.conflicts edges.new.stitches }
-    ensures units_of { UnitsOf settings pieces.now units.old units.new result }
+    ensures units_of { UnitsOf settings pieces.now units.new result }
 {
     let mut ties = Matrix::empty();
     adjacency::adjacency_words(settings, pieces, edges, &mut ties);
-    number_units(&ties, pieces.len(), units)
+    number_units(&ties, units)
 }

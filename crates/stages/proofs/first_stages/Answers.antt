@@ -8,18 +8,17 @@ use Rattle.adjacency.proofs.AdjacencyLaws.{conflicts_both_ways, stitches_both_wa
 use Rattle.fixed_masks.proofs.FixedLaws.{masks_length}
 use Rattle.units.specs.Noted.{NotedMasks}
 use Rattle.units.proofs.SplitLaws.{unit_inside}
-use Rattle.decomposer.proofs.RunLaws.{few, layer_sound, unit_places, units_fixed}
+use Rattle.units.proofs.TieUnits.{few_pieces}
+use Rattle.decomposer.proofs.RunLaws.{layer_sound, unit_places, units_fixed}
 use Rattle.stages.proofs.first_stages.Goals as goal
 use Rattle.stages.proofs.first_stages.Goals.{After-note_masks}
-
-pub fixed_masks_of-given-requires : goal.fixed_masks_of-given-requires
-fixed_masks_of-given-requires c = few _ _ c.requires.valid
 
 pub note_masks-requires : goal.note_masks-requires
 note_masks-requires c =
     rw (c.fixed_masks_of-given.ensures, masks_length c.args.pieces.now)
     (record {
-      masks_len_bound = few _ _ c.requires.valid;
+      masks_len_bound = few_pieces _ _ c.requires.valid;
+      units_len = omega (arith, c.layer_units-core.ensures.units_of.whole);
       by_index = λ i l. unit_inside _ _ c.layer_units-core.ensures.units_of i l;
     })
 
@@ -29,18 +28,19 @@ noted c = rw c.fixed_masks_of-given.ensures at c.note_masks.ensures
 
 pub merge_edges-requires : goal.merge_edges-requires
 merge_edges-requires c =
-    let sizes = few _ _ c.requires.valid in
+    let sizes = few_pieces _ _ c.requires.valid in
+    let numbered = c.layer_units-core.ensures.units_of in
     let edges = c.layer_units-core.ensures.adjacency in
     record {
-      n_bound = sizes;
-      by_index = λ i l. omega (arith, unit_inside _ _ c.layer_units-core.ensures.units_of i l);
+      few = omega (arith, numbered.whole, sizes);
+      by_index = λ i l. let inside = rw numbered.whole at l in omega (arith, sizes, unit_inside _ _ numbered i inside);
       conflict_ways = conflicts_both_ways edges;
       stitch_ways = stitches_both_ways edges;
     }
 
 pub search_core-requires-clause-sound : goal.search_core-requires-clause-sound
 search_core-requires-clause-sound c =
-    layer_sound _ _ c.requires.valid c.layer_units-core.ensures.adjacency c.layer_units-core.ensures.units_of _ refl refl refl refl
+    layer_sound _ _ c.requires.valid c.layer_units-core.ensures.adjacency c.layer_units-core.ensures.units_of _ refl refl refl
 
 -- what is left of the units is among them
 pub search_core-requires-clause-given : goal.search_core-requires-clause-given

@@ -9,18 +9,17 @@ use Rattle.adjacency.proofs.AdjacencyLaws.{conflicts_both_ways, stitches_both_wa
 use Rattle.fixed_masks.proofs.FixedLaws.{masks_length}
 use Rattle.units.specs.Noted.{NotedMasks}
 use Rattle.units.proofs.SplitLaws.{unit_inside}
-use Rattle.decomposer.proofs.RunLaws.{few, layer_sound, unit_places, units_fixed, found_few, found_grouping, after_size, run_same, run_against}
+use Rattle.units.proofs.TieUnits.{few_pieces}
+use Rattle.decomposer.proofs.RunLaws.{layer_sound, unit_places, units_fixed, found_within, found_grouping, after_size, run_same, run_against}
 use Rattle.decomposer.proofs.run.decompose.Goals as goal
 use Rattle.decomposer.proofs.run.decompose.Goals.{After-note_masks}
-
-pub fixed_masks_of-given-requires : goal.fixed_masks_of-given-requires
-fixed_masks_of-given-requires c = few _ _ c.requires.valid
 
 pub note_masks-requires : goal.note_masks-requires
 note_masks-requires c =
     rw (c.fixed_masks_of-given.ensures, masks_length c.args.pieces.now)
     (record {
-      masks_len_bound = few _ _ c.requires.valid;
+      masks_len_bound = few_pieces _ _ c.requires.valid;
+      units_len = omega (arith, c.layer_units-all.ensures.units_of.whole);
       by_index = λ i l. unit_inside _ _ c.layer_units-all.ensures.units_of i l;
     })
 
@@ -35,7 +34,7 @@ decompose_units-searched-requires c =
     let numbered = c.layer_units-all.ensures.units_of in
     record {
       settings_value = (valid_sound _ _ valid).settings;
-      sound = layer_sound _ _ valid adjacency numbered _ refl refl refl refl;
+      sound = layer_sound _ _ valid adjacency numbered _ refl refl refl;
       has_places = unit_places _ _ valid adjacency numbered c.args.masks.now c.requires.masks_len;
       has_fixed = units_fixed _ _ valid adjacency numbered (noted (goal.at.decompose_units-searched-requires c).After-note_masks);
     }
@@ -47,7 +46,7 @@ spread_masks-requires c =
     let numbered = c.layer_units-all.ensures.units_of in
     let first = noted (goal.at.spread_masks-requires c).After-note_masks in
     record {
-      masks_len_bound = found_few _ _ valid adjacency numbered first c.requires.masks_len c.decompose_units-searched.ensures;
+      units_len = found_within _ _ valid adjacency numbered first c.requires.masks_len c.decompose_units-searched.ensures;
       grouping = found_grouping _ _ valid adjacency numbered first c.requires.masks_len c.decompose_units-searched.ensures;
     }
 
@@ -60,7 +59,7 @@ score_edges-score-requires c =
     let size = after_size _ _ valid adjacency numbered first c.requires.masks_len c.decompose_units-searched.ensures c.spread_masks.ensures in
     record {
       weight_bound = (settings_facts _ (valid_sound c.args.settings c.args.pieces.now valid).settings).weight.high;
-      masks_bound = omega (arith, size, few _ _ valid);
+      masks_bound = omega (arith, size, few_pieces _ _ valid);
       both_ways = conflicts_both_ways adjacency;
       both_ways_2 = stitches_both_ways adjacency;
     }

@@ -1,38 +1,23 @@
 -- `score_units`: the words of ties give the layer's units, and the pairs its counts, so 12 and the score are those of the layer. Assumes nothing.
-use mathlib.Core.List.{List}
 use mathlib.Core.Path.{ap, ◌∙◌}
 use Prim.Native.Nat.{◌≤◌}
-use native.Mathlib.Omega.{arith}
-use lib.ListN.{length, replicate}
 use Rattle.std.proofs.lemmas.Result.{err_from_is_err_and}
-use Rattle.rules.specs.declared.layer.Settings.{Settings}
-use Rattle.rules.specs.declared.layer.Piece.{Piece}
-use Rattle.rules.specs.Questions.{done, Valid}
+use Rattle.rules.specs.Questions.{done}
 use Rattle.rules.proofs.Ranges.{settings_facts}
-use Rattle.rules.proofs.Reading as reading
 use Rattle.rules.proofs.Validity.{valid_sound}
 use Rattle.units.specs.Numbered.{UnitsOf}
-use Rattle.units.proofs.TieUnits.{ties_ways, layer_numbered}
+use Rattle.units.proofs.TieUnits.{ties_ways, few_pieces, front_numbered}
 use Rattle.scoring.proofs.TallyLaws.{few_pairs, tally_scoring}
 use Rattle.scoring.proofs.QuestionLaws.{unit_masked, split_asked}
 use Rattle.scoring.proofs.scores.score_units.Goals as goal
 use Rattle.scoring.proofs.scores.score_units.Goals.{After-number_units, After-test_pairs-tally}
 
-few : (s : Settings) (ps : List Piece) → Valid s ps → length ps ≤ 512
-few s ps valid = reading.few (length ps) (valid_sound s ps valid).count
-
-pub number_units-requires-clause-n_bound : goal.number_units-requires-clause-n_bound
-number_units-requires-clause-n_bound c = few c.args.settings c.args.pieces.now c.requires.valid
-
 pub number_units-requires-clause-both_ways : goal.number_units-requires-clause-both_ways
 number_units-requires-clause-both_ways c = ties_ways c.args.settings c.args.pieces.now c.test_pairs-tally.ensures.ties
 
 -- the units are the layer's
-numbered : (c : After-number_units) → UnitsOf c.args.settings c.args.pieces.now (replicate 512 0) c.number_units.new.units c.number_units.result
-numbered c = layer_numbered c.args.settings c.args.pieces.now c.test_pairs-tally.ensures.ties (few c.args.settings c.args.pieces.now c.requires.valid) c.number_units.ensures
-
-pub judge_units-requires-clause-masks_len_bound : goal.judge_units-requires-clause-masks_len_bound
-judge_units-requires-clause-masks_len_bound c = omega (arith, c.requires.masks_len, few c.args.settings c.args.pieces.now c.requires.valid)
+numbered : (c : After-number_units) → UnitsOf c.args.settings c.args.pieces.now c.number_units.new.units c.number_units.result
+numbered c = front_numbered _ _ c.test_pairs-tally.ensures.ties (few_pieces c.args.settings c.args.pieces.now c.requires.valid) c.number_units.ensures
 
 pub judge_units-requires-clause-by_index : goal.judge_units-requires-clause-by_index
 judge_units-requires-clause-by_index c = unit_masked _ _ c.args.masks.now c.requires.masks_len (numbered (goal.at.judge_units-requires-clause-by_index c).After-number_units)
@@ -45,7 +30,7 @@ returns-in_err-judge_units c =
 
 module _ (c : After-test_pairs-tally) where
   small : (c.test_pairs-tally.result.conflicts ≤ 130_816) × (c.test_pairs-tally.result.stitches ≤ 130_816)
-  small = few_pairs c.args.settings c.args.pieces.now c.args.masks.now c.test_pairs-tally.result c.test_pairs-tally.ensures.conflicts_value c.test_pairs-tally.ensures.stitches_value (few c.args.settings c.args.pieces.now c.requires.valid)
+  small = few_pairs c.args.settings c.args.pieces.now c.args.masks.now c.test_pairs-tally.result c.test_pairs-tally.ensures.conflicts_value c.test_pairs-tally.ensures.stitches_value (few_pieces c.args.settings c.args.pieces.now c.requires.valid)
 
 pub scoring_of-requires-clause-weight_bound : goal.scoring_of-requires-clause-weight_bound
 scoring_of-requires-clause-weight_bound c = (settings_facts _ (valid_sound c.args.settings c.args.pieces.now c.requires.valid).settings).weight.high

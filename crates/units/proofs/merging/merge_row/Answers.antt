@@ -1,4 +1,4 @@
-use Rattle.std.proofs.Common.{ap₂, ◌∙◌}
+use Rattle.std.proofs.Common.{ap₂, ◌∙◌, arith}
 use mathlib.Core.Bool.{◌||◌}
 use Prim.Native.Nat.{ℕ}
 use Rattle.bitset.specs.Bits.{has_edge}
@@ -9,7 +9,7 @@ use Rattle.units.proofs.merging.merge_row.Goals as goal
 pub loop-i-init : goal.loop-i-init
 loop-i-init c =
     rw (c.into_iter-i-iterator.ensures.into_iter_gives, c.members-i-items.ensures)
-    (row_none _ _ _ c.requires.j_bound c.below.result c.neighbours_in.result c.below.ensures c.neighbours_in.ensures _)
+    (row_none _ _ _ (omega (arith, c.requires.j_bound, c.requires.few)) c.below.result c.neighbours_in.result c.below.ensures c.neighbours_in.ensures _)
 
 pub loop-i-preserved : goal.loop-i-preserved
 loop-i-preserved c =

@@ -1,4 +1,4 @@
-use Rattle.std.proofs.Common.{◌≡◌, arith}
+use Rattle.std.proofs.Common.{◌≡◌, length, arith}
 use Rattle.units.proofs.MergeLaws.{rows_none, rows_next, rows_all}
 use Rattle.units.proofs.merging.merge_words.Goals as goal
 
@@ -10,5 +10,5 @@ loop-j-preserved c = rows_next c.loop-j.invariant c.merge_row.ensures
 
 pub returns : goal.returns
 returns c =
-    let e : c.loop-j.j ≡ c.args.n = omega arith in
-    rows_all c.requires.n_bound c.requires.both_ways (rw e at c.loop-j.invariant)
+    let e : c.loop-j.j ≡ length c.args.units.now = omega arith in
+    rows_all c.requires.few c.requires.both_ways (rw e at c.loop-j.invariant)

@@ -6,7 +6,7 @@ use Rattle.units.proofs.numbering.give_number.Given as goal
 
 abbrev pub invariant-loop-i : goal.invariant-loop-i
 invariant-loop-i l = record {
-  whole : length l.units ≡ 512;
+  whole : length l.units ≡ length l.initial.units;
   within : (k : ℕ) → member l.i-iterator k ≡ true → member l.members k ≡ true;
   given : (k : ℕ) → k < 512 → member l.members k ≡ true → member l.i-iterator k ≡ false → unit_at l.units k ≡ l.number;
   others : (k : ℕ) → (k < 512 → member l.members k ≡ false) → unit_at l.units k ≡ unit_at l.initial.units k;

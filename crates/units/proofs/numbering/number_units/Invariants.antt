@@ -5,7 +5,7 @@ use Rattle.units.proofs.NumberLaws.{Numbering}
 use Rattle.units.proofs.numbering.number_units.Given as goal
 
 abbrev pub invariant-loop-v : goal.invariant-loop-v
-invariant-loop-v l = Numbering l.ties l.initial.rest l.initial.units l.units l.numbers l.rest
+invariant-loop-v l = Numbering l.ties l.initial.rest (length l.initial.units) l.units l.numbers l.rest
 
 abbrev pub decreases-loop-v : goal.decreases-loop-v
 decreases-loop-v l = length (members_of l.rest)

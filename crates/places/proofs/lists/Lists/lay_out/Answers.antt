@@ -20,7 +20,7 @@ module _ (turn : In-loop-k) where
   unit = get_or turn.args.order.now turn.loop-k.k 0
 
   abbrev pieces : List ℕ
-  pieces = merged_into (unit_at turn.args.units.now) turn.args.n unit
+  pieces = merged_into (unit_at turn.args.units.now) (length turn.args.units.now) unit
 
   -- the set that is read has them
   found : (v : ℕ) (d : List ℕ) → v ≡ unit → members_of (get_or turn.pieces_of_units.new.pieces v d) ≡ pieces
@@ -30,12 +30,12 @@ module _ (turn : In-loop-k) where
       let small : unit < 512 = turn.requires.by_index turn.loop-k.k (omega arith) in
       ap (λ (x : ℕ). members_of (get_or sets x d)) at
       ∙ ap members_of (get_or_default sets unit d [] (omega arith))
-      ∙ unit_members (get_or sets unit []) turn.args.units.now turn.args.n unit turn.requires.size_bound.1 (λ q. turn.pieces_of_units.ensures.sorted unit q small)
+      ∙ unit_members (get_or sets unit []) turn.args.units.now (length turn.args.units.now) unit turn.requires.size_bound.1 (λ q. turn.pieces_of_units.ensures.sorted unit q small)
 
   abbrev entries_of : List ℕ → List ℕ
   entries_of words = place_entries words turn.loop-k.seats turn.loop-k.earlier pieces
 
-  given : Known turn.args.edges.now.conflicts turn.args.edges.now.stitches turn.args.n turn.args.order.now (length turn.args.order.now)
+  given : Known turn.args.edges.now.conflicts turn.args.edges.now.stitches (length turn.args.units.now) turn.args.order.now (length turn.args.order.now)
   given = record {
     few = turn.requires.size_bound.1;
     small = turn.requires.size_bound.0;
