@@ -2,13 +2,13 @@
 -- that follow. Assumes nothing.
 use mathlib.Core.Bool.{true, false, not, ◌&&◌, ◌||◌, cond, and-true, and-false, or-false}
 use mathlib.Core.List.{List}
-use mathlib.Core.Path.{◌≡◌, refl, sym, ap, ◌∙◌}
+use mathlib.Core.Path.{◌≡◌, sym, ap, ◌∙◌}
 use Prim.Native.Nat.{ℕ, ◌≤◌, ◌<◌}
 use native.Mathlib.Omega.{arith}
 use lib.Dec.{eqb, ltb}
 use lib.ListN.{length}
 use borrow.Author.Tests.{ne_eqb, lt-ltb}
-use Rattle.bitset.specs.Bits.{member, First, Empty}
+use Rattle.bitset.specs.Bits.{member, First}
 use Rattle.rules.specs.Basics.{up_to, keep}
 use Rattle.rules.specs.Edges.{Graph}
 use Rattle.rules.specs.Components.{components}
@@ -32,15 +32,6 @@ pub record Numbering (tieWords all : List ℕ) (n : ℕ) (units numbers rest : L
       → cond (member rest i) (part_of (components (word_graph tieWords tieWords) (members_of rest)) i) (unit_at units i)
       ≡ part_of (components (word_graph tieWords tieWords) (members_of all)) i
   pub numbers_so_far : (k : ℕ) → k < 512 → member numbers k ≡ (member all k && not (member rest k) && eqb (unit_at units k) k)
-
--- none is numbered
-pub numbering_none : (tieWords all units : List ℕ) {numbers : List ℕ} → Empty numbers → Numbering tieWords all (length units) units numbers all
-numbering_none tieWords all units {numbers} empty = record {
-  whole = refl;
-  within = λ k h m. m;
-  unit = λ i h m. rw m;
-  numbers_so_far = λ k h. empty.none k ∙ by_test (member all k) (λ m. rw m) (λ m. rw m);
-}
 
 module _ {tieWords all units numbers rest : List ℕ} {n : ℕ} (numbering : Numbering tieWords all n units numbers rest) where
   abbrev g : Graph
