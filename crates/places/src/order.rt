@@ -6,7 +6,7 @@ ghost use Rattle.adjacency.specs.Members.{members_of};
 use arrayvec::ArrayVec;
 use bitset::BitSet;
 
-// The members of a set in rising order. The list has room for all and no memory of its own.
+// The members of a set in rising order. The list is an array with room for all, so it needs no heap.
 pub fn list_members(members: &BitSet) -> ArrayVec<u16, 512>
     ensures order { result.items ≡ members_of members.now }
     ensures few { length result.items ≤ 512 }

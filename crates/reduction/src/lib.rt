@@ -1,5 +1,5 @@
 // Peeling and putting back (RULES 4 and 7) on adjacency words. The vertices that are there are a bit set. What is removed is listed, a vertex and its stitch
-// neighbour, so that it can return in reverse order. The list has room for every vertex and no memory of its own.
+// neighbour, so that it can return in reverse order. The list is an array with room for every vertex, so it needs no heap.
 #![tactic(auto)]
 
 mod peeling;

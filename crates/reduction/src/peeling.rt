@@ -1,4 +1,4 @@
-// Peeling: the lowest piece that may go is removed, until none may go. Degrees are ones of adjacency words, masked by the
+// Peeling: the lowest vertex that may go is removed, until none may go. Degrees are ones of adjacency words, masked by the
 // set of those still there. A vertex with a fixed mask stays.
 ghost use Rattle.std.specs.Prelude.{◌<◌, ◌≡◌};
 ghost use Rattle.rules.specs.Peeling.{may_go};
