@@ -214,7 +214,7 @@ module _ {K : ℕ} {words : List ℕ} {all left : List Removal} (earlier : List 
   split : (Placeable earlier masks) × (HasPlace masks r)
   split = All-pop (HasPlace masks) left earlier (Some r) last returning.placeable
 
-  pub last_placed : HasPlace masks r
+  last_placed : HasPlace masks r
   last_placed = split.1
 
   pub returning_more : {there' : List ℕ} {m : ℕ} → ReturnsWith K words there masks r m → ((k : ℕ) → member there' k ≡ (member there k || eqb k r.vertex))

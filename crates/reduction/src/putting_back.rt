@@ -59,10 +59,8 @@ pub fn put_back(
     ensures { PutBack masks conflicts.now removals.now there.now res.old res.new }
 {
     let mut present = *there;
-    let mut left = removals;
-    while let Some((removal, earlier)) = left.split_last() {
+    for removal in removals.iter().rev() {
         res[removal.vertex] = returned_mask(masks, conflicts, *removal, &present, res);
         present.put(removal.vertex);
-        left = earlier;
     }
 }
