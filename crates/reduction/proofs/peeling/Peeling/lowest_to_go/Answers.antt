@@ -1,6 +1,6 @@
 use native.Mathlib.Omega.{arith}
 use Rattle.reduction.proofs.MemberTests.{found_member, found_no_member}
-use Rattle.reduction.proofs.peeling.lowest_to_go.Goals as goal
+use Rattle.reduction.proofs.peeling.Peeling.lowest_to_go.Goals as goal
 
 pub returns-then-i-eq512 : goal.returns-then-i-eq512
 returns-then-i-eq512 c = found_no_member _ c.args.there.now (λ k l. c.loop-i.invariant.1 k (omega arith))
