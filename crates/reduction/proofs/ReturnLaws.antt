@@ -13,11 +13,11 @@ use borrow.Author.Tests.{eqb-true, eq-eqb}
 use Rattle.std.proofs.lemmas.List.{nil_from_length}
 use Rattle.std.proofs.lemmas.List.Elements.{All-weaker, All-pop}
 use Rattle.std.specs.Prelude as std
-use Rattle.std.specs.Prelude.{None, Some}
+use Rattle.std.specs.Prelude.{None, Some, unwrap_or}
 use Rattle.bitset.specs.Bits.{bit, member, has_edge, both, Taken, Lowest, WithMask}
 use Rattle.bitset.proofs.Counts.{count_in, count_le, count_bits, count_missing}
 use Rattle.bitset.proofs.Words.{bit_of_zero}
-use Rattle.rules.specs.Basics.{up_to, any_of, found_or, without}
+use Rattle.rules.specs.Basics.{up_to, any_of, find, found_or, without}
 use Rattle.rules.specs.Edges.{Graph, in_conflict}
 use Rattle.rules.specs.Score.{mask_of}
 use Rattle.rules.specs.Peeling as rules
@@ -31,7 +31,7 @@ use Rattle.adjacency.proofs.AdjacencyLaws.{given_test}
 use Rattle.adjacency.proofs.MemberLaws.{in_members, members_out}
 use Rattle.reduction.specs.declared.peeling.Removal.{Removal}
 use Rattle.reduction.specs.Removals.{went, removal_at, removals_of}
-use Rattle.reduction.specs.Returning.{takes, InUse, FreeIn, mask_back, ReturnsWith, Masked, HasPlace, Placeable, PutBack}
+use Rattle.reduction.specs.Returning.{takes, InUse, LowestFree, mask_back, ReturnsWith, Masked, HasPlace, Placeable, PutBack}
 
 -- ---- the masks in use
 
@@ -100,22 +100,19 @@ module _ {words there masks rest : List ℕ} {v used : ℕ} (seen : Seen words t
 -- ---- the lowest free mask
 
 module _ (K used : ℕ) where
-  pub free_none : ((m : ℕ) → m < K → bit used m ≡ true) → FreeIn K used 0
-  free_none all = record { lowest = sym (ap (found_or 0) (find_none_up_to (λ m. not (bit used m)) K (λ m l. ap not (all m l)))); small = omega arith }
+  pub free_none : ((m : ℕ) → m < K → bit used m ≡ true) → LowestFree K used None
+  free_none all = find_none_up_to (λ m. not (bit used m)) K (λ m l. ap not (all m l))
 
-  pub free_found : (m : ℕ) → Lowest used m → m < K → FreeIn K used m
-  free_found m lowest l = record {
-    lowest = sym (ap (found_or 0) (find_up_to (λ k. not (bit used k)) K m l (λ k h. ap not (lowest.below k h)) (ap not lowest.clear)));
-    small = lowest.small;
-  }
+  pub free_found : (m : ℕ) → Lowest used m → m < K → LowestFree K used (Some m)
+  free_found m lowest l = (find_up_to (λ k. not (bit used k)) K m l (λ k h. ap not (lowest.below k h)) (ap not lowest.clear), lowest.small)
 
   -- m is not one of the K masks
-  pub free_past : (m : ℕ) → Lowest used m → K ≤ m → FreeIn K used 0
+  pub free_past : (m : ℕ) → Lowest used m → K ≤ m → LowestFree K used None
   free_past m lowest l = free_none (λ k h. lowest.below k (omega arith))
 
   module _ (few : used < 2 ^ 8) where
     -- all eight bits are set
-    pub free_full : K ≤ 8 → ones used ≡ 8 → FreeIn K used 0
+    pub free_full : K ≤ 8 → ones used ≡ 8 → LowestFree K used None
     free_full h e = free_none λ m l.
         by_test (bit used m) (λ p. p)
         (λ p. absurd (omega (arith, count_bits 8 used few, count_in 8 (bit used) m (omega arith) p, count_le 8 (λ k. bit used k || eqb k m))))
@@ -133,10 +130,19 @@ taken words stitches masks present there v m s =
     any_same (λ u. in_conflict (word_graph words stitches) v u && eqb (mask_of masks u) m) (takes words masks v m) present (λ u i. rw (given_test (has_edge words v u)))
     ∙ any_members (takes words masks v m) present (members_of there) s
 
-pub free_in_use : (K : ℕ) (words there masks : List ℕ) (v x r : ℕ) → InUse words there masks v x → FreeIn K x r
-    → (stitches : List ℕ) → r ≡ free_mask K (word_graph words stitches) (record { there = members_of there; masks = masks }) v
-free_in_use K words there masks v x r used free stitches =
-    free.lowest
+-- the lowest free mask, or 0 where none is, is found, and below 8
+found : (K x : ℕ) (o : std.Option ℕ) → LowestFree K x o
+    → (unwrap_or o 0 ≡ found_or 0 (find (λ m. not (bit x m)) (up_to K))) × (unwrap_or o 0 < 8)
+found K x None free = (sym (ap (found_or 0) free), omega arith)
+found K x (Some m) free = (sym (ap (found_or 0) free.0), free.1)
+
+pub free_small : (K x : ℕ) (o : std.Option ℕ) → LowestFree K x o → unwrap_or o 0 < 8
+free_small K x o free = (found K x o free).1
+
+pub free_in_use : (K : ℕ) (words there masks : List ℕ) (v x : ℕ) (o : std.Option ℕ) → InUse words there masks v x → LowestFree K x o
+    → (stitches : List ℕ) → unwrap_or o 0 ≡ free_mask K (word_graph words stitches) (record { there = members_of there; masks = masks }) v
+free_in_use K words there masks v x o used free stitches =
+    (found K x o free).0
     ∙ ap (found_or 0) (find_same (λ m. not (bit x m)) _ (up_to K)
     (λ m i. ap not (used.bits m ∙ sym (taken words stitches masks (members_of there) there v m (λ u. (λ n. n, λ n. n))))))
 

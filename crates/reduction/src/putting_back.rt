@@ -1,7 +1,7 @@
 // Putting back: the removed vertices return in reverse order. One that went by (A) takes the lowest mask that no conflict
 // neighbour there has, and one that went by (B) its stitch neighbour's mask.
 ghost use Rattle.std.specs.Prelude.{◌<◌, ◌≤◌, ◌^◌};
-ghost use Rattle.reduction.specs.Returning.{InUse, FreeIn, ReturnsWith, Masked, HasPlace, Placeable, PutBack};
+ghost use Rattle.reduction.specs.Returning.{InUse, LowestFree, ReturnsWith, Masked, HasPlace, Placeable, PutBack};
 
 use crate::peeling::Removal;
 use bitset::{BitSet, Matrix};
@@ -19,20 +19,21 @@ fn masks_near(conflicts: &Matrix, v: usize, there: &BitSet, res: &[u8]) -> u32
     used
 }
 
-// The lowest free mask, or 0 where none is free. There are at most eight masks, so eight in use leave none.
-fn free_mask(masks: u32, used: u32) -> u8
+// The lowest free mask, if one is free. There are at most eight masks, so eight in use leave none.
+fn free_mask(masks: u32, used: u32) -> Option<u8>
     requires masks_bound { masks ≤ 8 }
     requires used_bound { used < 2 ^ 8 }
-    ensures { FreeIn masks used result }
+    ensures { LowestFree masks used result }
 {
     if u32::count_ones(used) == 8 {
-        return 0;
+        return None;
     }
     let m = bitset::lowest_free(used);
-    if m < masks { m as u8 } else { 0 }
+    if m < masks { Some(m as u8) } else { None }
 }
 
-// The mask that a vertex returns with.
+// The mask that a vertex returns with. The rules give mask 0 where none is free. The set and the masks change with each vertex, so a struct that lends
+// them would be made anew for each, and is no plainer than the parameters.
 fn returned_mask(masks: u32, conflicts: &Matrix, removal: Removal, there: &BitSet, res: &[u8]) -> u8
     requires masks_bound { masks ≤ 8 }
     requires place { HasPlace res.now removal }
@@ -41,7 +42,10 @@ fn returned_mask(masks: u32, conflicts: &Matrix, removal: Removal, there: &BitSe
 {
     match removal.neighbour {
         Some(u) => res[u],
-        None => free_mask(masks, masks_near(conflicts, removal.vertex, there, res)),
+        None => {
+            let used = masks_near(conflicts, removal.vertex, there, res);
+            free_mask(masks, used).unwrap_or(0)
+        }
     }
 }
 

@@ -1,4 +1,4 @@
--- `free_mask`: 0 where all eight are in use or the lowest that is not is no mask. Assumes nothing.
+-- `free_mask`: None where all eight are in use or the lowest that is not is no mask. Assumes nothing.
 use Rattle.reduction.proofs.ReturnLaws.{free_full, free_found, free_past, one_free}
 use Rattle.reduction.proofs.putting_back.free_mask.Goals as goal
 
