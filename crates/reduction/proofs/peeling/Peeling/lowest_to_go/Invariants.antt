@@ -4,8 +4,8 @@ use mathlib.Core.Path.{◌≡◌}
 use Prim.Native.Nat.{ℕ, ◌≤◌, ◌<◌, ◌-◌}
 use Rattle.bitset.specs.Bits.{member}
 use Rattle.rules.specs.Peeling.{may_go}
-use Rattle.adjacency.specs.Members.{members_of}
 use Rattle.adjacency.specs.Adjacency.{word_graph}
+use Rattle.adjacency.specs.Members.{members_of}
 use Rattle.adjacency.specs.UnitGraph.{fixed_at}
 use Rattle.reduction.proofs.peeling.Peeling.lowest_to_go.Given as goal
 
