@@ -1,5 +1,5 @@
 // The calls on the first records of a layer, and a line on how each came out. A case here is one call, with what it is to come to.
-ghost use Rattle.std.specs.Prelude.{◌≤◌};
+ghost use Rattle.std.specs.Prelude.{◌≡◌, ◌≤◌};
 
 use crate::layers::{Layer, records_of};
 use crate::outcomes::{Answer, Outcome};
@@ -20,6 +20,7 @@ impl Case {
     // On two masks.
     pub fn new(name: &'static str, layer: Layer, pieces: usize) -> Case
         requires { pieces ≤ 513 }
+        ensures { (h : _) × (result ≡ record { name = name.entry; layer = layer; pieces = pieces; masks = 2; there = h }) }
     {
         Case {
             name,
@@ -30,13 +31,17 @@ impl Case {
     }
 
     // The same under another name.
-    pub fn named(mut self, name: &'static str) -> Case {
+    pub fn named(mut self, name: &'static str) -> Case
+        ensures { result ≡ record self { name = name.entry } }
+    {
         self.name = name;
         self
     }
 
     // The same on so many masks.
-    pub fn on(mut self, masks: u32) -> Case {
+    pub fn on(mut self, masks: u32) -> Case
+        ensures { result ≡ record self { masks = masks } }
+    {
         self.masks = masks;
         self
     }

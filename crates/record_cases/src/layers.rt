@@ -1,8 +1,7 @@
 // The layers of the cases; each is an array of more records than a layer may have.
-ghost use Rattle.std.specs.Prelude.{◌≡◌, ◌<◌};
-ghost use Rattle.rules.specs.Questions.{piece_from, fix_at};
+ghost use Rattle.std.specs.Prelude.{◌≡◌, ◌<◌, [], get_or};
+ghost use Rattle.rules.specs.Questions.{piece_from};
 ghost use Rattle.record_cases.specs.Layers.{four_records, far_square, records_of};
-ghost use Rattle.record_cases.specs.declared.layers.Layer.{Layer};
 
 use rules::Piece;
 use std::array;
@@ -24,7 +23,50 @@ pub enum Layer {
     FixedTied,
 }
 
-// The piece that five numbers state: its shape and its corners.
+// Of each piece its shape and its corners. Where a layer has three, a fourth that no case lends stands after them.
+const ROW: [[u32; 5]; 4] = [
+    [0, 0, 0, 20, 20],
+    [1, 40, 0, 60, 20],
+    [2, 80, 0, 100, 20],
+    [0, 0, 0, 20, 20],
+];
+
+const THIN: [[u32; 5]; 4] = [
+    [0, 0, 0, 20, 20],
+    [1, 40, 0, 40, 20],
+    [2, 80, 0, 100, 20],
+    [0, 0, 0, 20, 20],
+];
+
+const OUTSIDE: [[u32; 5]; 4] = [
+    [0, 0, 0, 20, 20],
+    [1, 40, 0, 60, 20],
+    [2, 80, 0, 1_000_001, 20],
+    [0, 0, 0, 20, 20],
+];
+
+const OVERLAP: [[u32; 5]; 4] = [
+    [0, 0, 0, 20, 20],
+    [1, 40, 0, 60, 20],
+    [0, 10, 10, 30, 30],
+    [0, 0, 0, 20, 20],
+];
+
+const WIRE: [[u32; 5]; 4] = [
+    [0, 100, 0, 200, 20],
+    [0, 200, 0, 300, 20],
+    [1, 100, 90, 161, 110],
+    [2, 239, 90, 300, 110],
+];
+
+const TIED: [[u32; 5]; 4] = [
+    [0, 0, 0, 20, 20],
+    [0, 20, 11, 40, 31],
+    [1, 10, 60, 30, 80],
+    [2, 60, 60, 80, 80],
+];
+
+// The piece that a row states: a layer as a table of rows is plainer than as literals of six fields.
 fn piece(five: [u32; 5]) -> Piece
     ensures { result ≡ piece_from five }
 {
@@ -41,92 +83,15 @@ fn piece(five: [u32; 5]) -> Piece
 
 // Four pieces, and then the first one again.
 #[tactic(auto, unfolding(crate::specs::Layers::four_records))]
-fn four_records(a: [u32; 5], b: [u32; 5], c: [u32; 5], d: [u32; 5]) -> [Piece; 513]
-    ensures { result ≡ four_records a b c d }
+fn four_records(four: [[u32; 5]; 4]) -> [Piece; 513]
+    ensures { result ≡ four_records (get_or four 0 []) (get_or four 1 []) (get_or four 2 []) (get_or four 3 []) }
 {
+    let [a, b, c, d] = four;
     let mut all = [piece(a); 513];
     all[1] = piece(b);
     all[2] = piece(c);
     all[3] = piece(d);
     all
-}
-
-fn row() -> [Piece; 513]
-    ensures { result ≡ records_of Layer.Row }
-{
-    four_records(
-        [0, 0, 0, 20, 20],
-        [1, 40, 0, 60, 20],
-        [2, 80, 0, 100, 20],
-        [0, 0, 0, 20, 20],
-    )
-}
-
-fn thin() -> [Piece; 513]
-    ensures { result ≡ records_of Layer.Thin }
-{
-    four_records(
-        [0, 0, 0, 20, 20],
-        [1, 40, 0, 40, 20],
-        [2, 80, 0, 100, 20],
-        [0, 0, 0, 20, 20],
-    )
-}
-
-fn outside() -> [Piece; 513]
-    ensures { result ≡ records_of Layer.Outside }
-{
-    four_records(
-        [0, 0, 0, 20, 20],
-        [1, 40, 0, 60, 20],
-        [2, 80, 0, 1_000_001, 20],
-        [0, 0, 0, 20, 20],
-    )
-}
-
-fn overlap() -> [Piece; 513]
-    ensures { result ≡ records_of Layer.Overlap }
-{
-    four_records(
-        [0, 0, 0, 20, 20],
-        [1, 40, 0, 60, 20],
-        [0, 10, 10, 30, 30],
-        [0, 0, 0, 20, 20],
-    )
-}
-
-fn wire() -> [Piece; 513]
-    ensures { result ≡ records_of Layer.Wire }
-{
-    four_records(
-        [0, 100, 0, 200, 20],
-        [0, 200, 0, 300, 20],
-        [1, 100, 90, 161, 110],
-        [2, 239, 90, 300, 110],
-    )
-}
-
-fn tied() -> [Piece; 513]
-    ensures { result ≡ records_of Layer.Tied }
-{
-    four_records(
-        [0, 0, 0, 20, 20],
-        [0, 20, 11, 40, 31],
-        [1, 10, 60, 30, 80],
-        [2, 60, 60, 80, 80],
-    )
-}
-
-// The records with the mask of record i fixed.
-fn fix(mut records: [Piece; 513], i: usize, mask: u8) -> [Piece; 513]
-    requires { i < 513 }
-    ensures { result ≡ fix_at i mask records }
-{
-    records[i] = Piece {
-        fixed: mask,
-        ..records[i]
-    };
-    records
 }
 
 // A square of a grid with 32 in a row.
@@ -151,15 +116,28 @@ pub fn records_of(layer: Layer) -> [Piece; 513]
     ensures { result ≡ records_of layer }
 {
     match layer {
-        Layer::Row => row(),
-        Layer::Thin => thin(),
-        Layer::Outside => outside(),
-        Layer::Overlap => overlap(),
-        Layer::Wire => wire(),
+        Layer::Row => four_records(ROW),
+        Layer::Thin => four_records(THIN),
+        Layer::Outside => four_records(OUTSIDE),
+        Layer::Overlap => four_records(OVERLAP),
+        Layer::Wire => four_records(WIRE),
         Layer::Far => far(),
-        Layer::Tied => tied(),
-        Layer::FixedRow => fix(row(), 1, 0),
-        Layer::FixedThin => fix(thin(), 1, 2),
-        Layer::FixedTied => fix(fix(tied(), 0, 0), 1, 1),
+        Layer::Tied => four_records(TIED),
+        Layer::FixedRow => {
+            let mut records = four_records(ROW);
+            records[1].fixed = 0;
+            records
+        }
+        Layer::FixedThin => {
+            let mut records = four_records(THIN);
+            records[1].fixed = 2;
+            records
+        }
+        Layer::FixedTied => {
+            let mut records = four_records(TIED);
+            records[0].fixed = 0;
+            records[1].fixed = 1;
+            records
+        }
     }
 }

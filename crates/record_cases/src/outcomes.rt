@@ -1,8 +1,6 @@
 // What a call comes to, with whether lent memory is then as it must be.
 ghost use Rattle.std.specs.Prelude.{◌≡◌};
-ghost use Rattle.rules.specs.Answers.{refusal_number};
-ghost use Rattle.rules.specs.Loader.{place_number};
-ghost use Rattle.record_cases.specs.Outcomes.{answer_numbers, numbers_of, refused_as, run_as, scored_as};
+ghost use Rattle.record_cases.specs.Outcomes.{numbers_of};
 
 use rules::{Decomposition, Place, Refusal, Refused, Score, Scoring, Verdict};
 use std::fmt;
@@ -18,7 +16,7 @@ pub enum Answer {
 
 // The answer with this score and so many tested pairs.
 pub fn scored(conflicts: u32, stitches: u32, cost: u32, tested: u32) -> Answer
-    ensures { answer_numbers result ≡ scored_as conflicts stitches cost tested }
+    ensures { result ≡ Answer.Scored (record { score = record { conflicts = conflicts; stitches = stitches; cost = cost }; tested = tested }) }
 {
     let score = Score {
         conflicts,
@@ -30,7 +28,7 @@ pub fn scored(conflicts: u32, stitches: u32, cost: u32, tested: u32) -> Answer
 
 // The answer of a run that ended within its budget.
 pub fn best(conflicts: u32, stitches: u32, cost: u32, steps: u32) -> Answer
-    ensures { answer_numbers result ≡ run_as conflicts stitches cost steps 1 }
+    ensures { result ≡ Answer.Decomposed (record { conflicts = conflicts; stitches = stitches; cost = cost; steps = steps; verdict = Verdict.Best }) }
 {
     Answer::Decomposed(Decomposition {
         conflicts,
@@ -43,7 +41,7 @@ pub fn best(conflicts: u32, stitches: u32, cost: u32, steps: u32) -> Answer
 
 // The answer that refuses what stands at this place.
 pub fn refused(refusal: Refusal, place: Place) -> Answer
-    ensures { answer_numbers result ≡ refused_as (refusal_number refusal) (place_number place) }
+    ensures { result ≡ Answer.Refused (record { refusal = refusal; place = place }) }
 {
     Answer::Refused(refusal.at(place))
 }
