@@ -46,7 +46,9 @@ impl Case {
         self
     }
 
-    fn settings(self) -> Settings {
+    fn settings(self) -> Settings
+        ensures { result ≡ record { masks = self.masks; spacing = 80; margin = 10; weight = 10; budget = 100 } }
+    {
         Settings {
             masks: self.masks,
             spacing: 80,

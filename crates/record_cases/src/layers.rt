@@ -86,11 +86,11 @@ fn piece(five: [u32; 5]) -> Piece
 fn four_records(four: [[u32; 5]; 4]) -> [Piece; 513]
     ensures { result ≡ four_records (get_or four 0 []) (get_or four 1 []) (get_or four 2 []) (get_or four 3 []) }
 {
-    let [a, b, c, d] = four;
-    let mut all = [piece(a); 513];
-    all[1] = piece(b);
-    all[2] = piece(c);
-    all[3] = piece(d);
+    let [a, b, c, d] = four.map(piece);
+    let mut all = [a; 513];
+    all[1] = b;
+    all[2] = c;
+    all[3] = d;
     all
 }
 
