@@ -1,6 +1,6 @@
-// The lines that fix masks, which follow the piece lines. Their pieces rise, so a line that goes back is out of form. After a refusal it is
-// not said how far the reader has come.
-ghost use Rattle.std.specs.Prelude.{◌≡◌, ◌+◌, ◌<◌, ◌≤◌, OnOk, length};
+// The lines that fix masks, which follow the piece lines. Their pieces rise, so a line that goes back is out of form. After a refusal the place
+// of the reader is free.
+ghost use Rattle.std.specs.Prelude.{◌≡◌, ◌+◌, ◌<◌, ◌≤◌, OnOk, [], length};
 ghost use Rattle.lines.specs.Readers.{answer_as};
 ghost use Rattle.rules.specs.Answers.{answer_of};
 ghost use Rattle.rules.specs.Questions.{FixedRead, read_fixed, read_all_fixed};
@@ -46,7 +46,8 @@ pub fn read_all_fixed(
 ) -> Result<Pieces, Refused>
     requires masks { masks ≤ 8 }
     requires room { reader.old.line + length pieces < 4_294_967_295 }
-    ensures { answer_of result ≡ read_all_fixed (length reader.old.rest.now) masks 0 reader.old.line pieces reader.old.rest.now }
+    ensures pieces { answer_of result ≡ read_all_fixed (length reader.old.rest.now) masks 0 reader.old.line pieces reader.old.rest.now }
+    ensures rest { OnOk result (reader.new.rest.now ≡ []) }
 {
     let mut least = 0;
     while !reader.rest.is_empty() {

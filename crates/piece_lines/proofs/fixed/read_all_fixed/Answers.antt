@@ -17,8 +17,8 @@ loop-reader-init c = record { many = refl; low = omega arith; line = omega arith
 pub read_fixed-requires-clause-room : goal.read_fixed-requires-clause-room
 read_fixed-requires-clause-room c = omega (arith, c.loop-reader.invariant.many, c.loop-reader.invariant.low, c.loop-reader.invariant.line, c.requires.room)
 
-pub returns-in_err-fixed : goal.returns-in_err-fixed
-returns-in_err-fixed c =
+pub returns-in_err-fixed-clause-pieces : goal.returns-in_err-fixed-clause-pieces
+returns-in_err-fixed-clause-pieces c =
     let p = err_from_is_err_and c.from_residual.result c.from_residual.ensures.1 in
     let some : 0 < length c.loop-reader.reader.rest.now = grind arith in
     let one = rw c.len.ensures.value at c.in_err-fixed.ensures.fixed in
@@ -51,7 +51,7 @@ loop-reader-preserved c =
       passed = rw (c.fix.ensures, c.in_ok-fixed.ensures.line) (passed_one _ _ _ _ _ _ _ _ c.loop-reader.invariant.passed _ one);
     }
 
-pub returns : goal.returns
-returns c =
+pub returns-clause-pieces : goal.returns-clause-pieces
+returns-clause-pieces c =
     let none : length c.loop-reader.reader.rest.now ≡ 0 = grind arith in
     passed_all _ _ _ _ _ _ _ _ c.loop-reader.invariant.passed none
