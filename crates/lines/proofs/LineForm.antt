@@ -1,17 +1,12 @@
 -- A line read as a whole: no byte 10, no key, numbers out of form, or the numbers. Assumes nothing.
 use mathlib.Core.List.{List}
 use mathlib.Core.Option.{Option, none, some}
-use mathlib.Core.Path.{◌≡◌, refl, ap, ◌∙◌}
-use Prim.Native.Nat.{ℕ, ◌+◌, ◌-◌, ◌<◌}
-use native.Mathlib.Omega.{arith}
-use lib.ListN.{length, take, drop, length-drop}
+use mathlib.Core.Path.{◌≡◌, refl, ◌∙◌}
+use Prim.Native.Nat.{ℕ, ◌+◌}
+use lib.ListN.{take, drop}
 use Rattle.std.proofs.Common.{Some, None}
 use Rattle.rules.specs.Lines.{ended, unended, first_line, after_key, parts_of, numbers_of, line_numbers, NumbersRead, line_of}
-use Rattle.lines.specs.declared.read.Line.{Line}
 use Rattle.lines.specs.ReadLines.{capped, numbers_read, line_read}
-
-abbrev pub made : {N : ℕ} → ℕ → List ℕ → Line N
-made bytes values = record { bytes = bytes; values = values }
 
 -- the numbers, and the text after the line
 abbrev line_from : List ℕ → Option (List ℕ) → Option NumbersRead
@@ -19,7 +14,7 @@ line_from rest none = none
 line_from rest (some ns) = some (record { numbers = ns; rest = rest })
 
 module _ (text key : List ℕ) (N : ℕ) where
-  pub line_unended : first_line text ≡ unended → None ≡ line_read {N = N} text (line_of key N text)
+  pub line_unended : first_line text ≡ unended → none ≡ line_read (line_of key N text)
   unfolding line_of
   line_unended e = rw (e, line_of)
 
@@ -32,7 +27,7 @@ module _ (text key : List ℕ) (N : ℕ) where
         go none eo = rw (split, line_of) (rw eo)
         go (some ns) eo = rw (split, line_of) (rw eo)
 
-    pub line_no_key : after_key key (take n text) ≡ none → None ≡ line_read {N = N} text (line_of key N text)
+    pub line_no_key : after_key key (take n text) ≡ none → none ≡ line_read (line_of key N text)
     unfolding line_numbers
     line_no_key lacks = rw (line_ended, line_numbers, lacks)
 
@@ -41,22 +36,19 @@ module _ (text key : List ℕ) (N : ℕ) where
       unfolding line_numbers
       numbers = line_ended ∙ rw (line_numbers, there)
 
-      pub line_bad : None ≡ numbers_read (numbers_of N (parts_of rest)) → None ≡ line_read {N = N} text (line_of key N text)
+      pub line_bad : None ≡ numbers_read (numbers_of N (parts_of rest)) → none ≡ line_read (line_of key N text)
       line_bad bad = go (numbers_of N (parts_of rest)) bad numbers
         where
-          go : (o : Option (List ℕ)) → None ≡ numbers_read o → line_of key N text ≡ line_from (drop (n + 1) text) o → None ≡ line_read {N = N} text (line_of key N text)
+          go : (o : Option (List ℕ)) → None ≡ numbers_read o → line_of key N text ≡ line_from (drop (n + 1) text) o → none ≡ line_read (line_of key N text)
           go none e k = rw k
           go (some ns) e k = absurd (cc e)
 
-      pub line_good : n < length text → (values : List ℕ) → Some values ≡ numbers_read (numbers_of N (parts_of rest))
-          → Some (made {N = N} (n + 1) values) ≡ line_read text (line_of key N text)
-      line_good h values good = go (numbers_of N (parts_of rest)) good numbers
+      pub line_good : (values : List ℕ) → Some values ≡ numbers_read (numbers_of N (parts_of rest))
+          → some (record { numbers = values; rest = drop (n + 1) text }) ≡ line_read (line_of key N text)
+      line_good values good = go (numbers_of N (parts_of rest)) good numbers
         where
-          size : n + 1 ≡ length text - length (drop (n + 1) text)
-          size = omega (arith, length-drop (n + 1) text)
-
-          go : (o : Option (List ℕ)) → Some values ≡ numbers_read o → line_of key N text ≡ line_from (drop (n + 1) text) o → Some (made {N = N} (n + 1) values) ≡ line_read text (line_of key N text)
+          go : (o : Option (List ℕ)) → Some values ≡ numbers_read o → line_of key N text ≡ line_from (drop (n + 1) text) o → some (record { numbers = values; rest = drop (n + 1) text }) ≡ line_read (line_of key N text)
           go none e k = absurd (cc e)
           go (some ns) e k =
               let same : values ≡ capped ns = cc e in
-              rw (k, same) (ap (λ (bytes : ℕ). Some (made {N = N} bytes (capped ns))) size)
+              rw (k, same)

@@ -1,27 +1,26 @@
 -- What the next line comes to by the rules: refused, or its numbers up to the cap and the text after it. Assumes nothing.
 use mathlib.Core.List.{List}
+use mathlib.Core.Option.{none, some}
 use mathlib.Core.Path.{◌≡◌, refl, sym, ap, ap₂, ◌∙◌}
 use Prim.Native.Nat.{ℕ, min}
-use lib.ListN.{get_or, drop, get_or-map}
-use Rattle.std.proofs.Common.{Some, None}
+use lib.ListN.{get_or, get_or-map}
 use Rattle.rules.specs.declared.refusal.Place.{Place}
 use Rattle.rules.specs.Lines.{NumbersRead, line_of}
 use Rattle.rules.specs.Questions.{Outcome, done, refused, read_line}
 use Rattle.numerals.specs.Numerals.{cap}
-use Rattle.lines.specs.declared.read.Line.{Line}
 use Rattle.lines.specs.ReadLines.{capped, line_read}
 use Rattle.lines.specs.Readers.{capped_line}
 use Rattle.lines.proofs.GoodLines.{bad_line, good_line}
 
 module _ (text key : List ℕ) (count lineNo : ℕ) where
-  pub form_refused : None ≡ line_read {N = count} text (line_of key count text) → refused 3 (Place.Line lineNo) ≡ capped_line (read_line key count lineNo text)
+  pub form_refused : none ≡ line_read (line_of key count text) → refused 3 (Place.Line lineNo) ≡ capped_line (read_line key count lineNo text)
   unfolding read_line
   form_refused bad = rw (bad_line text key count bad, read_line)
 
-  pub line_found : {r : Line count} → Some r ≡ line_read text (line_of key count text)
-      → done (record { numbers = r.values; rest = drop r.bytes text }) ≡ capped_line (read_line key count lineNo text)
+  pub line_found : {values rest : List ℕ} → some (record { numbers = values; rest = rest }) ≡ line_read (line_of key count text)
+      → done (record { numbers = values; rest = rest }) ≡ capped_line (read_line key count lineNo text)
   unfolding read_line
-  line_found good = let g = good_line text key count good in rw (g.found, read_line) (ap₂ (λ (ns rest : List ℕ). done (record { numbers = ns; rest = rest })) g.values g.after)
+  line_found good = let g = good_line text key count good in rw (g.found, read_line) (ap₂ (λ (ns rest : List ℕ). done (record { numbers = ns; rest = rest })) g.numbers g.after)
 
 -- ---- From the numbers up to the cap to the numbers themselves
 

@@ -1,5 +1,5 @@
 -- What the reader of lines hands back, by the definitions of the rules. Numbers are read up to the cap.
-use Rattle.std.specs.Prelude.{true, false, List, [], ◌∷◌, map, ℕ, ◌+◌, ◌-◌, min, eqb, length, Option, Some, None}
+use Rattle.std.specs.Prelude.{true, false, List, [], ◌∷◌, map, ℕ, ◌+◌, min, eqb, Option, Some, None}
 use Rattle.std.proofs.Math.Option.{none, some}
 use Rattle.std.proofs.Math.Option as rules
 use Rattle.rules.specs.Lines.{comma, NumbersRead}
@@ -27,6 +27,12 @@ numbers_read (some ns) = Some (capped ns)
 
 -- ---- Lines
 
-abbrev pub line_read : {N : ℕ} → List ℕ → rules.Option NumbersRead → Option (Line N)
-line_read text none = None
-line_read text (some l) = Some (record { bytes = length text - length l.rest; values = capped l.numbers })
+-- what a call came to that reads a line
+abbrev pub line_as : {N : ℕ} → Option (Line N) → rules.Option NumbersRead
+line_as None = none
+line_as (Some l) = some (record { numbers = l.values; rest = l.rest.now })
+
+-- the line's numbers, up to the cap
+abbrev pub line_read : rules.Option NumbersRead → rules.Option NumbersRead
+line_read none = none
+line_read (some l) = some (record { numbers = capped l.numbers; rest = l.rest })

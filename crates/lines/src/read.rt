@@ -2,7 +2,7 @@
 // that starts where it reads.
 ghost use Rattle.std.specs.Prelude.{◌≡◌, ◌≤◌};
 ghost use Rattle.rules.specs.Lines.{parts_of, numbers_of, line_of};
-ghost use Rattle.lines.specs.ReadLines.{next_numeral, numbers_read, line_read};
+ghost use Rattle.lines.specs.ReadLines.{next_numeral, numbers_read, line_as, line_read};
 
 use numerals::{Numeral, read_numeral};
 
@@ -34,23 +34,23 @@ fn read_numbers<const N: usize>(text: &[u8]) -> Option<[u32; N]>
     (at == text.len()).then_some(values)
 }
 
-// A line that was read: how many bytes it is long with its byte 10, and its numbers, each up to the cap.
+// A line that was read: its numbers, each up to the cap, and the text after it.
 #[derive(Clone, Copy)]
-pub struct Line<const N: usize> {
-    pub bytes: usize,
+pub struct Line<'a, const N: usize> {
     pub values: [u32; N],
+    pub rest: &'a [u8],
 }
 
 // The text's first line, if it has this key and as many numbers as expected.
-pub fn read_line<const N: usize>(text: &[u8], key: &[u8]) -> Option<Line<N>>
+pub fn read_line<'a, const N: usize>(text: &'a [u8], key: &[u8]) -> Option<Line<'a, N>>
     requires { 1 ≤ N }
-    ensures { result ≡ line_read text.now (line_of key.now N text.now) }
+    ensures { line_as result ≡ line_read (line_of key.now N text.now) }
 {
     let end = text.iter().position(|b| *b == b'\n')?;
     let line = &text[..end];
     let values = read_numbers(line.strip_prefix(key)?)?;
     Some(Line {
-        bytes: end + 1,
         values,
+        rest: &text[end + 1..],
     })
 }

@@ -8,7 +8,8 @@ ghost use Rattle.lines.specs.Readers.{answer_as, capped_line};
 use crate::read::read_line;
 use rules::{Place, Refusal, Refused};
 
-// What is left of the text, and the number of its first line.
+// What is left of the text, and the number of its first line. That the number has room is asked where a line is read: a header is read from a
+// text of any length, which can be longer than a number of lines goes.
 #[derive(Clone, Copy)]
 pub struct Reader<'a> {
     pub rest: &'a [u8],
@@ -42,8 +43,11 @@ impl<'a> Reader<'a> {
         ensures line { OnOk result (self.new.line ≡ self.old.line + 1) }
         ensures refused { OnErr result (self.new ≡ self.old) }
     {
-        let line = read_line(self.rest, key).ok_or(Refusal::Form.at(self.place()))?;
-        self.rest = &self.rest[line.bytes..];
+        // The borrow check does not cover `ok_or` on what holds a slice and takes a const parameter.
+        let Some(line) = read_line(self.rest, key) else {
+            return Err(Refusal::Form.at(self.place()));
+        };
+        self.rest = line.rest;
         self.line += 1;
         Ok(line.values)
     }

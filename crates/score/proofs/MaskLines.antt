@@ -1,22 +1,21 @@
 -- Mask lines: a line that was read is the line of its number, and lines that were read one after the other are those of all their numbers. Assumes nothing.
 use mathlib.Core.List.{List, [], ◌∷◌, ◌++◌, map, append-nil, append_assoc, map-append}
 use mathlib.Core.Logic.{⊎_elim}
+use mathlib.Core.Option.{some}
 use mathlib.Core.Path.{◌≡◌, refl, sym, ap, ap₂, ◌∙◌}
 use Prim.Native.Nat.{ℕ, ◌+◌, ◌≤◌, ◌<◌, min}
 use native.Mathlib.Numerals.{add-one}
 use native.Mathlib.Omega.{arith}
 use lib.Dec.{leb}
-use lib.ListN.{length, get_or, take, drop, set, length-append, length-set, length-map}
+use lib.ListN.{length, get_or, take, set, length-append, length-set, length-map}
 use lib.Seq.{take-nil, take_all, take-append-le, take-suc-set, set_out}
 use borrow.Author.Tests.{leb-true, leb-false, lt-leb}
 use Rattle.rules.specs.Lines.{ascii, line, line_of}
 use Rattle.rules.specs.ResultText.{mask_line, mask_lines}
 use Rattle.rules.proofs.Tests.{by_test, lt_or_ge}
-use Rattle.lines.specs.declared.read.Line.{Line}
 use Rattle.numerals.specs.Numerals.{cap}
 use Rattle.lines.specs.ReadLines.{line_read}
 use Rattle.lines.proofs.GoodLines.{good_line}
-use Rattle.std.proofs.Common.{Some}
 use Rattle.line_writer.proofs.LineSizes.{line_length}
 use Rattle.lines.proofs.Written.{line_written}
 use Rattle.score.specs.Masks.{mask_of, masks_of, MaskRead, NoMaskLine, AllStored, BadLine}
@@ -35,20 +34,16 @@ single [] h = absurd (omega arith)
 single (n ∷ []) h = refl
 single (n ∷ m ∷ ns) h = absurd (omega arith)
 
-module _ (text : List ℕ) {r : Line 1} (e : Some r ≡ line_read text (line_of (ascii "mask=") 1 text)) where
-  -- the line is in the text
-  pub line_inside : r.bytes ≤ length text
-  line_inside = (good_line text (ascii "mask=") 1 e).inside
-
-  pub line_good : (mask : ℕ) → mask ≡ mask_of (get_or r.values 0 0) → MaskRead text mask (drop r.bytes text)
+module _ (text : List ℕ) {values rest : List ℕ} (e : some (record { numbers = values; rest = rest }) ≡ line_read (line_of (ascii "mask=") 1 text)) where
+  pub line_good : (mask : ℕ) → mask ≡ mask_of (get_or values 0 0) → MaskRead text mask rest
   line_good mask told =
       let read = good_line text (ascii "mask=") 1 e in
       let written = line_written (ascii "mask=") 1 text read.line read.found in
       let n = get_or read.line.numbers 0 0 in
       record {
         number = n;
-        line = rw read.after (written.0 ∙ ap (λ (ns : List ℕ). line (ascii "mask=") ns ++ read.line.rest) (single read.line.numbers written.1));
-        value = told ∙ ap mask_of (read.value 0 (omega arith)) ∙ mask_capped n;
+        line = written.0 ∙ ap₂ (λ (ns after : List ℕ). line (ascii "mask=") ns ++ after) (single read.line.numbers written.1) (sym read.after);
+        value = told ∙ ap mask_of (read.value 0) ∙ mask_capped n;
       }
 
 -- a mask line takes some of the text

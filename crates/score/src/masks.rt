@@ -18,7 +18,7 @@ fn split_mask(text: &[u8]) -> Option<(u8, &[u8])>
     ensures { MatchOption result (NoMaskLine text.now) (λ split. MaskRead text.now split.0 split.1.now) }
 {
     let line = lines::read_line::<1>(text, b"mask=")?;
-    Some((mask_of(line.values[0]), &text[line.bytes..]))
+    Some((mask_of(line.values[0]), line.rest))
 }
 
 // Stores mask i, if there is room for it.

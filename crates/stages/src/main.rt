@@ -206,7 +206,7 @@ fn main(rt: HostRuntime) -> io::Result<()> {
     let sum = match lines::read_line::<2>(input, b"stages=") {
         Some(line) => {
             let [last, repeats] = line.values;
-            repeated(&rt, Stage::from(last), repeats, &input[line.bytes..])?
+            repeated(&rt, Stage::from(last), repeats, line.rest)?
         }
         None => 0,
     };

@@ -1,7 +1,6 @@
 -- `split_mask`: a line out of form, or the mask of its number and the text after it. Assumes nothing.
 use Rattle.rules.specs.Lines.{ascii}
 use Rattle.lines.proofs.GoodLines.{bad_line}
-use Rattle.lines.proofs.NumberParts.{part_from}
 use Rattle.score.proofs.MaskLines.{line_good}
 use Rattle.score.proofs.masks.split_mask.Goals as goal
 
@@ -11,6 +10,4 @@ returns-in_err-line c = rw c.from_residual.ensures (bad_line c.args.text.now _ 1
 
 pub returns : goal.returns
 unfolding ascii
-returns c =
-    let line = c.in_ok-line.line in
-    rw (part_from c.args.text.now line.bytes) (line_good c.args.text.now c.in_ok-line.ensures _ c.mask_of.ensures)
+returns c = line_good c.args.text.now c.in_ok-line.ensures _ c.mask_of.ensures
