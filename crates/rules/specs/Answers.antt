@@ -6,6 +6,7 @@ use Rattle.rules.specs.declared.refusal.Refusal.{Refusal}
 use Rattle.rules.specs.declared.refusal.Refused.{Refused}
 use Rattle.rules.specs.declared.answers.Decomposition.{Decomposition}
 use Rattle.rules.specs.declared.answers.LayerRead.{LayerRead}
+use Rattle.rules.specs.declared.valid.ValidLayer.{ValidLayer}
 use Rattle.rules.specs.Settings.{no_settings, no_piece}
 use Rattle.rules.specs.Decomposition.{Run}
 use Rattle.rules.specs.Questions.{Outcome, done, refused, Layer}
@@ -36,13 +37,18 @@ abbrev pub answer_of : {A : Type 0} → Result A Refused → Outcome A
 answer_of (Ok a) = done a
 answer_of (Err r) = refusal_of r
 
+-- What judging a layer came to. The layer that it hands on is the one that was judged.
+abbrev pub judged : Result ValidLayer Refused → Outcome (Unit {0})
+judged (Ok l) = done tt
+judged (Err r) = refusal_of r
+
 -- the run that its values and the masks beside them state
 abbrev pub run_of : Decomposition → List ℕ → Run
 run_of d masks = record {
   masks = masks;
-  conflicts = d.conflicts;
-  stitches = d.stitches;
-  cost = d.cost;
+  conflicts = d.score.conflicts;
+  stitches = d.score.stitches;
+  cost = d.score.cost;
   steps = d.steps;
   verdict = d.verdict;
 }

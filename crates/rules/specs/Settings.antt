@@ -1,5 +1,5 @@
 -- Settings and pieces (RULES 1).
-use Rattle.std.specs.Prelude.{Bool, ◌&&◌, ◌||◌, List, map, ℕ, eqb, leb, ltb, get_or}
+use Rattle.std.specs.Prelude.{Bool, cond, ◌&&◌, ◌||◌, List, map, ℕ, eqb, leb, ltb, get_or, Option, Some, None}
 use Rattle.rules.specs.declared.layer.Settings.{Settings}
 use Rattle.rules.specs.declared.layer.Piece.{Piece}
 
@@ -57,6 +57,10 @@ has_area p = ltb p.x1 p.x2 && ltb p.y1 p.y2
 -- set yet
 abbrev pub unset : ℕ
 unset = 255
+
+-- the mask that such a number states, where it states one
+abbrev pub stated_mask : ℕ → Option ℕ
+stated_mask m = cond (eqb m unset) None (Some m)
 
 -- a fixed mask is one of the K masks, where there is one
 abbrev pub fixed_in_range : ℕ → ℕ → Bool

@@ -1,4 +1,6 @@
 // What the public calls answer (RULES 12), beside the refusal that each of them may give.
+ghost use Rattle.std.specs.Prelude.{◌≡◌, ◌≤◌, take};
+
 use crate::layer::{Piece, Settings};
 use crate::refusal::Refused;
 use std::fmt;
@@ -35,12 +37,10 @@ impl Display for Verdict {
     }
 }
 
-// What a run answers beside its masks, which lie in the list that the caller lent.
+// What a run answers beside its masks, which lie in the list that the caller lent: their score, the steps taken, and the verdict.
 #[derive(Clone, Copy, Debug, PartialEq, Eq)]
 pub struct Decomposition {
-    pub conflicts: u32,
-    pub stitches: u32,
-    pub cost: u32,
+    pub score: Score,
     pub steps: u32,
     pub verdict: Verdict,
 }
@@ -53,4 +53,14 @@ pub struct LayerRead {
     pub settings: Settings,
     pub count: usize,
     pub pieces: [Piece; 512],
+}
+
+impl LayerRead {
+    // The pieces that were read, to be lent on.
+    pub fn lent(&self) -> &[Piece]
+        requires { self.now.count ≤ 512 }
+        ensures { result.now ≡ take self.now.count self.now.pieces }
+    {
+        &self.pieces[..self.count]
+    }
 }

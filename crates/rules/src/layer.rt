@@ -3,13 +3,15 @@
 ghost use Rattle.std.specs.Prelude.{◌≡◌};
 ghost use Rattle.rules.specs.Answers.{answer_of};
 ghost use Rattle.rules.specs.Calls.{new_settings};
-ghost use Rattle.rules.specs.Settings.{settings_in_range, within};
+ghost use Rattle.rules.specs.Questions.{piece_from};
+ghost use Rattle.rules.specs.Settings.{settings_in_range, stated_mask, fixed_in_range};
 
 use crate::refusal::{Place, Refusal, Refused};
 use std::fmt;
 use std::fmt::Display;
+use std::ops::RangeBounds;
 
-#[derive(Clone, Copy, Debug, PartialEq, Eq)]
+#[derive(Clone, Copy, Debug, Default, PartialEq, Eq)]
 pub struct Settings {
     pub masks: u32,
     pub spacing: u32,
@@ -69,39 +71,16 @@ impl Settings {
     pub fn in_range(self) -> bool
         ensures { result ≡ settings_in_range self }
     {
-        in_limits(Settings::MASKS_LEAST, Settings::MASKS_GREATEST, self.masks)
-            && in_limits(
-                Settings::SPACING_LEAST,
-                Settings::SPACING_GREATEST,
-                self.spacing,
-            )
-            && in_limits(
-                Settings::MARGIN_LEAST,
-                Settings::MARGIN_GREATEST,
-                self.margin,
-            )
-            && in_limits(
-                Settings::WEIGHT_LEAST,
-                Settings::WEIGHT_GREATEST,
-                self.weight,
-            )
-            && in_limits(
-                Settings::BUDGET_LEAST,
-                Settings::BUDGET_GREATEST,
-                self.budget,
-            )
+        (Settings::MASKS_LEAST..=Settings::MASKS_GREATEST).contains(&self.masks)
+            && (Settings::SPACING_LEAST..=Settings::SPACING_GREATEST).contains(&self.spacing)
+            && (Settings::MARGIN_LEAST..=Settings::MARGIN_GREATEST).contains(&self.margin)
+            && (Settings::WEIGHT_LEAST..=Settings::WEIGHT_GREATEST).contains(&self.weight)
+            && (Settings::BUDGET_LEAST..=Settings::BUDGET_GREATEST).contains(&self.budget)
     }
 }
 
-// Whether x is from the least to the greatest value.
-pub fn in_limits(least: u32, greatest: u32, x: u32) -> bool
-    ensures { result ≡ within least greatest x }
-{
-    least <= x && x <= greatest
-}
-
 // A rectangle, which shape it belongs to, and the mask that the designer has fixed for it, `UNSET` where none is.
-#[derive(Clone, Copy, Debug, PartialEq, Eq)]
+#[derive(Clone, Copy, Debug, Default, PartialEq, Eq)]
 pub struct Piece {
     pub shape: u32,
     pub x1: u32,
@@ -123,7 +102,41 @@ impl Piece {
     pub const UNSET: u8 = 255;
 }
 
-// How two pieces are joined: by an edge of the one or the other kind, or by a tie, which puts both on one mask.
+// The piece that five numbers state, its shape and its corners, as a line of a layer text has them. It has no fixed mask.
+impl From<[u32; 5]> for Piece {
+    ghost from_gives = { λ ns p. p ≡ piece_from ns };
+
+    fn from(numbers: [u32; 5]) -> Piece {
+        let [shape, x1, y1, x2, y2] = numbers;
+        Piece {
+            shape,
+            x1,
+            y1,
+            x2,
+            y2,
+            fixed: Piece::UNSET,
+        }
+    }
+}
+
+// The mask that a number of a record or of a lent list states, where it states one. Records and lists hold numbers, since their callers write them (RULES 3 and 18),
+// and an `Option` in their place would have a case more, a mask of 255.
+#[inline]
+pub fn stated_mask(number: u8) -> Option<u8>
+    ensures { result ≡ stated_mask number }
+{
+    (number != Piece::UNSET).then_some(number)
+}
+
+// Whether a number states one of so many masks, or none.
+pub fn mask_in_range(masks: u32, number: u8) -> bool
+    ensures { result ≡ fixed_in_range masks number }
+{
+    stated_mask(number).is_none_or(|mask| u32::from(mask) < masks)
+}
+
+// How two pieces are joined: by an edge of the one or the other kind, or by a tie, which puts both on one mask. `None` is a case here and not an `Option` around
+// the others, since the call on two pieces answers it as one of four (RULES 12).
 #[derive(Clone, Copy, Debug, PartialEq, Eq)]
 pub enum Edge {
     Conflict,

@@ -45,7 +45,8 @@ impl Refusal {
     }
 }
 
-// Where the refused input stands: a line from 1, a piece from 0, a record of a stream from 1, or nothing.
+// Where the refused input stands: a line from 1, a piece from 0, a record of a stream from 1, or nothing. `Nothing` is a case here and not an `Option` around the
+// others, since the rules give it a number as they give the others (RULES 11).
 #[derive(Clone, Copy, Debug, PartialEq, Eq)]
 pub enum Place {
     Line(u32),
