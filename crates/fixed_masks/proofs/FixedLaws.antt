@@ -13,7 +13,8 @@ use Rattle.rules.proofs.Reading.{few}
 use Rattle.adjacency.specs.UnitGraph.{unit_at}
 use Rattle.theory.proofs.FixedUnits.{judged_lowest}
 use Rattle.units.specs.Numbered.{UnitsOf}
-use Rattle.units.proofs.SplitLaws.{split_question, splits_same}
+use Rattle.units.specs.Noted.{split_question}
+use Rattle.units.proofs.SplitLaws.{splits_same}
 
 pub masks_length : (ps : List Piece) → length (fixed_masks ps) ≡ length ps
 masks_length ps = length-map ps (λ (p : Piece). p.fixed)

@@ -7,7 +7,7 @@ ghost use Rattle.rules.specs.Answers.{answer_of};
 ghost use Rattle.rules.specs.Questions.{judge_fixed, judge_layer};
 
 use bitset::Matrix;
-use rules::{Piece, Place, Refusal, Refused, Settings};
+use rules::{Piece, Refusal, Refused, Settings, stated_mask};
 
 // Question 14 by the units of the pieces: the first piece that differs from an earlier one is the first that differs from the lowest one with a fixed mask.
 fn judge_units(settings: Settings, pieces: &[Piece]) -> Result<(), Refused>
@@ -17,14 +17,10 @@ fn judge_units(settings: Settings, pieces: &[Piece]) -> Result<(), Refused>
     let mut ties = Matrix::empty();
     let mut units = [0u16; 512];
     let units = &mut units[..pieces.len()];
-    let mut noted = [Piece::UNSET; 512];
     adjacency::tie_words(settings, pieces, &mut ties);
     units::number_units(&ties, units);
     let masks = units::fixed_masks_of(pieces);
-    match units::note_masks(units, &masks[..pieces.len()], &mut noted) {
-        Some(first) => Err(Refusal::FixedSplit.at(Place::Piece(first as u32))),
-        None => Ok(()),
-    }
+    units::judge_masks(Refusal::FixedSplit, units, masks.as_slice())
 }
 
 // Question 14 of the pieces. Units are looked for only where a mask is fixed.
@@ -32,7 +28,10 @@ pub fn judge_fixed(settings: Settings, pieces: &[Piece]) -> Result<(), Refused>
     requires { length pieces.now ≤ 512 }
     ensures { answer_of result ≡ judge_fixed settings pieces.now }
 {
-    if pieces.iter().all(|piece| piece.fixed == Piece::UNSET) {
+    if pieces
+        .iter()
+        .all(|piece| stated_mask(piece.fixed).is_none())
+    {
         return Ok(());
     }
     judge_units(settings, pieces)

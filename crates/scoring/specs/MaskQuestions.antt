@@ -7,21 +7,14 @@ use Rattle.rules.specs.declared.refusal.Place.{Place}
 use Rattle.rules.specs.Edges.{graph_of}
 use Rattle.rules.specs.Settings.{unset}
 use Rattle.rules.specs.Score.{mask_of, is_set, cost_of, score_of, pairs_of}
-use Rattle.rules.specs.Units.{unit_of, fits_unit}
+use Rattle.rules.specs.Units.{unit_of}
 use Rattle.rules.specs.Questions.{Outcome, done, ask, and_then, ask_each}
+use Rattle.units.specs.Noted.{split_question}
 use Rattle.pair_tests.specs.declared.tally.Tally.{Tally}
-
--- whether a mask is not set, or below the limit
-abbrev pub allowed_mask : ℕ → ℕ → Bool
-allowed_mask limit mask = eqb mask unset || ltb mask limit
 
 -- 8 of piece i
 abbrev pub mask_question : ℕ → List ℕ → ℕ → Outcome (Unit {0})
 mask_question limit masks i = ask (not (is_set masks i) || ltb (mask_of masks i) limit) 8 (Place.Piece i)
-
--- 12 of piece i among n, where `unit` gives each piece's unit
-abbrev pub unit_question : (ℕ → ℕ) → ℕ → List ℕ → ℕ → Outcome (Unit {0})
-unit_question unit n masks i = ask (fits_unit unit n masks i) 12 (Place.Piece i)
 
 -- the score, and beside it the pairs tested
 abbrev pub scoring_of : Settings → List Piece → List ℕ → Scoring
@@ -36,4 +29,4 @@ tallied weight t = record {
 
 -- 12 of every piece, then the score
 abbrev pub units_scored : Settings → List Piece → List ℕ → Outcome Scoring
-units_scored s ps masks = and_then (ask_each (unit_question (unit_of s ps) (length ps) masks) (length ps)) λ _. done (scoring_of s ps masks)
+units_scored s ps masks = and_then (ask_each (split_question 12 (unit_of s ps) (length ps) masks) (length ps)) λ _. done (scoring_of s ps masks)

@@ -1,22 +1,14 @@
 // Scores, with the questions before them.
-ghost use Rattle.std.specs.Prelude.{◌≡◌, ℕ, ◌<◌, ◌≤◌, length};
+ghost use Rattle.std.specs.Prelude.{◌≡◌, ◌≤◌, length};
 ghost use Rattle.rules.specs.Answers.{answer_of};
 ghost use Rattle.rules.specs.Calls.{score_masks};
 ghost use Rattle.rules.specs.Questions.{ask_each, Valid};
-ghost use Rattle.adjacency.specs.UnitGraph.{unit_at};
-ghost use Rattle.scoring.specs.MaskQuestions.{allowed_mask, mask_question, unit_question, tallied, units_scored};
+ghost use Rattle.scoring.specs.MaskQuestions.{mask_question, tallied, units_scored};
 
 use bitset::Matrix;
 use counting::cost_of;
 use pair_tests::{Tally, test_pairs};
-use rules::{Piece, Place, Refusal, Refused, Score, Scoring, Settings};
-
-// Whether a mask is below the limit, or not set.
-fn allowed(limit: u32, mask: u8) -> bool
-    ensures { result ≡ allowed_mask limit mask }
-{
-    mask == Piece::UNSET || u32::from(mask) < limit
-}
+use rules::{Piece, Place, Refusal, Refused, Score, Scoring, Settings, mask_in_range};
 
 // Question 8 of each mask.
 fn judge_masks(limit: u32, masks: &[u8]) -> Result<(), Refused>
@@ -24,25 +16,11 @@ fn judge_masks(limit: u32, masks: &[u8]) -> Result<(), Refused>
     ensures { answer_of result ≡ ask_each (mask_question limit masks.now) (length masks.now) }
 {
     for (i, mask) in masks.iter().enumerate() {
-        if !allowed(limit, *mask) {
+        if !mask_in_range(limit, *mask) {
             return Err(Refusal::MaskRange.at(Place::Piece(i as u32)));
         }
     }
     Ok(())
-}
-
-// Question 12: each set piece has the mask of its unit's lowest set piece.
-fn judge_units(units: &[u16], masks: &[u8]) -> Result<(), Refused>
-    requires masks_len_bound { length masks.now ≤ 512 }
-    requires units_len { length masks.now ≤ length units.now }
-    requires by_index { (i : ℕ) → i < length masks.now → unit_at units.now i < length masks.now }
-    ensures { answer_of result ≡ ask_each (unit_question (unit_at units.now) (length masks.now) masks.now) (length masks.now) }
-{
-    let mut noted = [Piece::UNSET; 512];
-    match units::note_masks(units, masks, &mut noted) {
-        Some(first) => Err(Refusal::Split.at(Place::Piece(first as u32))),
-        None => Ok(()),
-    }
 }
 
 // The score of the counted conflicts and stitches, and beside it the pairs tested.
@@ -74,7 +52,7 @@ fn score_units(settings: Settings, pieces: &[Piece], masks: &[u8]) -> Result<Sco
     let units = &mut units[..pieces.len()];
     let tally = test_pairs(settings, pieces, masks, &mut ties);
     units::number_units(&ties, units);
-    judge_units(units, masks)?;
+    units::judge_masks(Refusal::Split, units, masks)?;
     Ok(scoring_of(settings.weight, tally))
 }
 

@@ -14,18 +14,14 @@ use Rattle.rules.specs.declared.refusal.Place.{Place}
 use Rattle.rules.specs.Basics.{up_to, find}
 use Rattle.rules.specs.Score.{is_set}
 use Rattle.rules.specs.Units.{unit_of, fits_unit}
-use Rattle.rules.specs.Questions.{Outcome, done, refused, ask, ask_each}
+use Rattle.rules.specs.Questions.{done, refused, ask, ask_each}
 use Rattle.rules.proofs.Finding.{find_same}
 use Rattle.rules.proofs.Lists.{in_up_to}
 use Rattle.rules.proofs.Outcomes.{each_passes, each_refused, each_ext}
 use Rattle.adjacency.specs.UnitGraph.{unit_at}
 use Rattle.theory.proofs.Units.{grouping}
-use Rattle.units.specs.Noted.{NotedMasks}
+use Rattle.units.specs.Noted.{NotedMasks, split_question}
 use Rattle.units.specs.Numbered.{UnitsOf}
-
--- whether piece i of n fits its unit, asked with a question's number
-abbrev pub split_question : ℕ → (ℕ → ℕ) → ℕ → List ℕ → ℕ → Outcome (Unit {0})
-split_question number unit n masks i = ask (fits_unit unit n masks i) number (Place.Piece i)
 
 module _ {unit : ℕ → ℕ} {masks noted : List ℕ} (number : ℕ) where
   pub all_fit : NotedMasks unit masks noted None → ask_each (split_question number unit (length masks) masks) (length masks) ≡ done tt

@@ -1,8 +1,10 @@
 -- The mask that is noted of each unit while its pieces are gone through: that of its lowest set piece. Assumes nothing: these are definitions.
 use Rattle.std.specs.Prelude.{Bool, true, false, cond, ◌||◌, List, ◌≡◌, ℕ, ◌<◌, eqb, length, set, Option, Some, None}
+use Rattle.rules.specs.declared.refusal.Place.{Place}
 use Rattle.rules.specs.Settings.{unset}
 use Rattle.rules.specs.Score.{mask_of}
 use Rattle.rules.specs.Units.{unit_fixed, fits_unit}
+use Rattle.rules.specs.Questions.{Outcome, ask}
 use Rattle.adjacency.specs.UnitGraph.{fixed_at}
 
 -- whether a piece's mask goes with what is noted of its unit
@@ -28,3 +30,7 @@ pub record NotedMasks (unit : ℕ → ℕ) (masks noted : List ℕ) (r : Option 
   pub misfit : FirstMisfit unit masks r
   pub masks_noted : (u : ℕ) → fixed_at noted u ≡ unit_fixed unit (fitting masks r) masks u
   pub whole : length noted ≡ 512
+
+-- whether piece i of n fits its unit, asked with a question's number
+abbrev pub split_question : ℕ → (ℕ → ℕ) → ℕ → List ℕ → ℕ → Outcome (Unit {0})
+split_question number unit n masks i = ask (fits_unit unit n masks i) number (Place.Piece i)

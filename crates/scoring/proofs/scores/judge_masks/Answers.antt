@@ -12,13 +12,13 @@ pub loop-i-init : goal.loop-i-init
 unfolding ask_each
 loop-i-init c = refl
 
-pub returns-then-not-allowed : goal.returns-then-not-allowed
-returns-then-not-allowed c =
+pub returns-then-not-mask_in_range : goal.returns-then-not-mask_in_range
+returns-then-not-mask_in_range c =
     let a = c.args in
     rw c.at.ensures
-    (sym (each_refused _ _ {i = c.loop-i.i} (omega arith) c.loop-i.invariant (mask_asked a.limit a.masks.now c.loop-i.i ∙ rw (failed _ _ c.allowed.ensures (ap not c.if-not-allowed.true)))))
+    (sym (each_refused _ _ {i = c.loop-i.i} (omega arith) c.loop-i.invariant (mask_asked a.limit a.masks.now c.loop-i.i ∙ rw (failed _ _ c.mask_in_range.ensures (ap not c.if-not-mask_in_range.true)))))
 
 pub loop-i-preserved : goal.loop-i-preserved
 loop-i-preserved c =
     let a = c.args in
-    each_next _ _ c.loop-i.invariant (mask_asked a.limit a.masks.now c.loop-i.i ∙ rw (passed _ _ c.allowed.ensures (ap not c.if-not-allowed.false)))
+    each_next _ _ c.loop-i.invariant (mask_asked a.limit a.masks.now c.loop-i.i ∙ rw (passed _ _ c.mask_in_range.ensures (ap not c.if-not-mask_in_range.false)))

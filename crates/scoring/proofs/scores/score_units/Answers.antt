@@ -19,14 +19,14 @@ number_units-requires-clause-both_ways c = ties_ways c.args.settings c.args.piec
 numbered : (c : After-number_units) → UnitsOf c.args.settings c.args.pieces.now c.number_units.new.units c.number_units.result
 numbered c = front_numbered _ _ c.test_pairs-tally.ensures.ties (few_pieces c.args.settings c.args.pieces.now c.requires.valid) c.number_units.ensures
 
-pub judge_units-requires-clause-by_index : goal.judge_units-requires-clause-by_index
-judge_units-requires-clause-by_index c = unit_masked _ _ c.args.masks.now c.requires.masks_len (numbered (goal.at.judge_units-requires-clause-by_index c).After-number_units)
+pub judge_masks-requires-clause-by_index : goal.judge_masks-requires-clause-by_index
+judge_masks-requires-clause-by_index c = unit_masked _ _ c.args.masks.now c.requires.masks_len (numbered (goal.at.judge_masks-requires-clause-by_index c).After-number_units)
 
-pub returns-in_err-judge_units : goal.returns-in_err-judge_units
-returns-in_err-judge_units c =
+pub returns-in_err-judge_masks : goal.returns-in_err-judge_masks
+returns-in_err-judge_masks c =
     let p = err_from_is_err_and c.from_residual.result c.from_residual.ensures.1 in
     rw (p.1, p.2)
-    (split_asked _ _ c.args.masks.now c.requires.masks_len (numbered (goal.at.returns-in_err-judge_units c).After-number_units) c.in_err-judge_units.ensures)
+    (split_asked _ _ c.args.masks.now c.requires.masks_len (numbered (goal.at.returns-in_err-judge_masks c).After-number_units) c.in_err-judge_masks.ensures)
 
 module _ (c : After-test_pairs-tally) where
   small : (c.test_pairs-tally.result.conflicts ≤ 130_816) × (c.test_pairs-tally.result.stitches ≤ 130_816)
@@ -45,4 +45,4 @@ pub returns : goal.returns
 returns c =
     let a = c.args in
     ap done (c.scoring_of.ensures ∙ tally_scoring a.settings a.pieces.now a.masks.now c.test_pairs-tally.result c.test_pairs-tally.ensures.conflicts_value c.test_pairs-tally.ensures.stitches_value c.test_pairs-tally.ensures.tested_value)
-    ∙ split_asked _ _ a.masks.now c.requires.masks_len (numbered (goal.at.returns c).After-number_units) c.in_ok-judge_units.ensures
+    ∙ split_asked _ _ a.masks.now c.requires.masks_len (numbered (goal.at.returns c).After-number_units) c.in_ok-judge_masks.ensures
