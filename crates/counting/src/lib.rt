@@ -11,14 +11,14 @@ ghost use Rattle.counting.specs.Counted.{one_mask, two_masks, edge_counts, edge_
 
 use adjacency::EdgeSets;
 use bitset::{BitSet, Matrix};
-use rules::{Edge, Piece, Score};
+use rules::{Edge, Score, stated_mask};
 
 // Whether two masks are set and one.
 #[tactic(auto, using(crate::proofs::ScoreLaws::one_equal, crate::proofs::ScoreLaws::one_other))]
 pub fn on_one_mask(a: u8, b: u8) -> bool
     ensures { result ≡ one_mask a b }
 {
-    a == b && b != Piece::UNSET
+    a == b && stated_mask(b).is_some()
 }
 
 // Whether two masks are set and two.
@@ -26,7 +26,7 @@ pub fn on_one_mask(a: u8, b: u8) -> bool
 pub fn on_two_masks(a: u8, b: u8) -> bool
     ensures { result ≡ two_masks a b }
 {
-    a != b && a != Piece::UNSET && b != Piece::UNSET
+    a != b && stated_mask(a).is_some() && stated_mask(b).is_some()
 }
 
 // Whether an edge counts whose ends have these masks. A conflict edge does on one mask, a stitch edge on two.

@@ -10,7 +10,7 @@ ghost use Rattle.reduction.specs.Removals.{LowestToGo, PeeledTo};
 use adjacency::EdgeSets;
 use arrayvec::ArrayVec;
 use bitset::BitSet;
-use rules::Piece;
+use rules::stated_mask;
 
 // A removed vertex, and its stitch neighbour where it went by (B).
 #[derive(Clone, Copy, Debug, Default, PartialEq, Eq)]
@@ -35,7 +35,7 @@ impl Peeling<'_> {
         requires { v < 512 }
         ensures { result ≡ may_go self.now.masks (word_graph self.now.edges.now.conflicts self.now.edges.now.stitches) (fixed_at self.now.fixed.now) (members_of there.now) v }
     {
-        if self.fixed[v] != Piece::UNSET {
+        if stated_mask(self.fixed[v]).is_some() {
             return false;
         }
         let near = self.edges.conflicts.degree_in(v, there);

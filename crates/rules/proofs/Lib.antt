@@ -15,5 +15,6 @@ pub mod Unfixed
 pub mod Reading
 pub mod Calls
 pub mod Ranges
+pub mod StatedMasks
 pub mod Edges
 pub mod Finding

@@ -8,7 +8,7 @@ ghost use Rattle.rules.specs.Questions.{done, Valid};
 ghost use Rattle.line_writer.specs.Writing.{HasRoom, Wrote};
 
 use line_writer::Writer;
-use rules::{Piece, Place, Refusal, Refused, Settings};
+use rules::{Piece, Place, Refusal, Refused, Settings, stated_mask};
 
 // The six lines before the pieces.
 fn write_header(out: &mut Writer, settings: Settings, count: u32)
@@ -40,8 +40,8 @@ fn write_fixed_line(out: &mut Writer, i: u32, piece: Piece)
     requires { HasRoom out.old (fixed_line i piece) }
     ensures { Wrote out.old (fixed_line i piece) out.new }
 {
-    if piece.fixed != Piece::UNSET {
-        out.line(b"fixed=", &[i, u32::from(piece.fixed)]);
+    if let Some(mask) = stated_mask(piece.fixed) {
+        out.line(b"fixed=", &[i, u32::from(mask)]);
     }
 }
 
