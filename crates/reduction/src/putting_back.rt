@@ -6,45 +6,52 @@ ghost use Rattle.reduction.specs.Returning.{InUse, LowestFree, ReturnsWith, Mask
 use crate::peeling::Removal;
 use bitset::{BitSet, Matrix};
 
-// The masks of v's conflict neighbours that are there, a bit to a mask. Only neighbours are visited.
-fn masks_near(conflicts: &Matrix, v: usize, there: &BitSet, res: &[u8]) -> u32
-    requires v_bound { v < 512 }
-    requires masked { Masked there.now res.now }
-    ensures { InUse conflicts.now there.now res.now v result }
-{
-    let mut used = 0;
-    for u in conflicts.neighbours_in(v, there).members() {
-        used = bitset::with_mask(used, res[u]);
-    }
-    used
+// What masks are handed back by: how many there are, and the conflicts. Who is there and the masks change with each vertex, so they are handed on beside it.
+#[derive(Clone, Copy)]
+struct Returning<'a> {
+    masks: u32,
+    conflicts: &'a Matrix,
+    ghost few: { masks ≤ 8 },
 }
 
-// The lowest free mask, if one is free. There are at most eight masks, so eight in use leave none.
-fn free_mask(masks: u32, used: u32) -> Option<u8>
-    requires masks_bound { masks ≤ 8 }
-    requires used_bound { used < 2 ^ 8 }
-    ensures { LowestFree masks used result }
-{
-    if u32::count_ones(used) == 8 {
-        return None;
+impl Returning<'_> {
+    // The masks of v's conflict neighbours that are there, a bit to a mask. Only neighbours are visited.
+    fn masks_near(&self, v: usize, there: &BitSet, res: &[u8]) -> u32
+        requires v_bound { v < 512 }
+        requires masked { Masked there.now res.now }
+        ensures { InUse self.now.conflicts.now there.now res.now v result }
+    {
+        let mut used = 0;
+        for u in self.conflicts.neighbours_in(v, there).members() {
+            used = bitset::with_mask(used, res[u]);
+        }
+        used
     }
-    let m = bitset::lowest_free(used);
-    if m < masks { Some(m as u8) } else { None }
-}
 
-// The mask that a vertex returns with. The rules give mask 0 where none is free. The set and the masks change with each vertex, so a struct that lends
-// them would be made anew for each, and is no plainer than the parameters.
-fn returned_mask(masks: u32, conflicts: &Matrix, removal: Removal, there: &BitSet, res: &[u8]) -> u8
-    requires masks_bound { masks ≤ 8 }
-    requires place { HasPlace res.now removal }
-    requires masked { Masked there.now res.now }
-    ensures { ReturnsWith masks conflicts.now there.now res.now removal result }
-{
-    match removal.neighbour {
-        Some(u) => res[u],
-        None => {
-            let used = masks_near(conflicts, removal.vertex, there, res);
-            free_mask(masks, used).unwrap_or(0)
+    // The lowest free mask, if one is free. There are at most eight masks, so eight in use leave none.
+    fn free_mask(&self, used: u32) -> Option<u8>
+        requires { used < 2 ^ 8 }
+        ensures { LowestFree self.now.masks used result }
+    {
+        if u32::count_ones(used) == 8 {
+            return None;
+        }
+        let m = bitset::lowest_free(used);
+        if m < self.masks { Some(m as u8) } else { None }
+    }
+
+    // The mask that a vertex returns with. The rules give mask 0 where none is free.
+    fn mask_of(&self, removal: Removal, there: &BitSet, res: &[u8]) -> u8
+        requires place { HasPlace res.now removal }
+        requires masked { Masked there.now res.now }
+        ensures { ReturnsWith self.now.masks self.now.conflicts.now there.now res.now removal result }
+    {
+        match removal.neighbour {
+            Some(u) => res[u],
+            None => {
+                let used = self.masks_near(removal.vertex, there, res);
+                self.free_mask(used).unwrap_or(0)
+            }
         }
     }
 }
@@ -62,9 +69,10 @@ pub fn put_back(
     requires masked { Masked there.now res.old }
     ensures { PutBack masks conflicts.now removals.now there.now res.old res.new }
 {
+    let returning = Returning { masks, conflicts };
     let mut present = *there;
     for removal in removals.iter().rev() {
-        res[removal.vertex] = returned_mask(masks, conflicts, *removal, &present, res);
+        res[removal.vertex] = returning.mask_of(*removal, &present, res);
         present.put(removal.vertex);
     }
 }

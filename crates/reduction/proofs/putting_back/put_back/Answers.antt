@@ -8,7 +8,7 @@ loop-removal-init c =
     rw all (returning_none _ _ _ c.requires.placeable c.requires.masked)
 
 pub loop-removal-preserved : goal.loop-removal-preserved
-loop-removal-preserved c = returning_more c.next.new.self.iter.rest.now c.loop-removal.invariant c.in-Some.ensures.steps c.returned_mask.ensures c.put.ensures
+loop-removal-preserved c = returning_more c.next.new.self.iter.rest.now c.loop-removal.invariant c.in-Some.ensures.steps c.mask_of.ensures c.put.ensures
 
 pub returns : goal.returns
 returns c = returning_all c.loop-removal.invariant c.in-None.ensures.steps.0

@@ -1,6 +1,6 @@
--- `returned_mask`: the neighbour's mask, or the lowest free one. Assumes nothing.
+-- `mask_of`: the neighbour's mask, or the lowest free one. Assumes nothing.
 use Rattle.reduction.proofs.ReturnLaws.{free_in_use, free_small}
-use Rattle.reduction.proofs.putting_back.returned_mask.Goals as goal
+use Rattle.reduction.proofs.putting_back.Returning.mask_of.Goals as goal
 
 pub returns-in-None : goal.returns-in-None
 returns-in-None c =

@@ -1,10 +1,10 @@
 use Rattle.reduction.proofs.ReturnLaws.{seen_none, seen_all, seen_more, met_there}
-use Rattle.reduction.proofs.putting_back.masks_near.Goals as goal
+use Rattle.reduction.proofs.putting_back.Returning.masks_near.Goals as goal
 
 pub loop-u-init : goal.loop-u-init
 loop-u-init c =
     rw (c.into_iter-u-iterator.ensures.into_iter_gives, c.members-u-items.ensures)
-    (seen_none c.args.conflicts.now c.args.there.now c.args.res.now c.neighbours_in.result c.args.v c.neighbours_in.ensures)
+    (seen_none c.args.self.now.conflicts.now c.args.there.now c.args.res.now c.neighbours_in.result c.args.v c.neighbours_in.ensures)
 
 pub bounds-res-u : goal.bounds-res-u
 bounds-res-u c = c.requires.masked.placed _ c.in-Some.ensures.steps.small (met_there c.loop-u.invariant c.in-Some.ensures.steps)
