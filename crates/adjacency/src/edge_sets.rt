@@ -1,15 +1,13 @@
 // The adjacency words of a judged layer: a bit for each pair of pieces, in words for each kind of edge and for ties. Each unordered pair
 // is met once, from its greater number, and both of its bits are set.
-ghost use Rattle.std.specs.Prelude.{true, ◌&&◌, ◌||◌, ◌≡◌, ℕ, ◌<◌, ◌≤◌, length, replicate};
+ghost use Rattle.std.specs.Prelude.{◌&&◌, ◌||◌, ◌≡◌, ℕ, ◌<◌, length, replicate};
 ghost use Rattle.bitset.specs.Bits.{has_edge};
-ghost use Rattle.rules.specs.Settings.{settings_in_range, piece_in_range, piece_at};
-ghost use Rattle.rules.specs.Questions.{Valid};
 ghost use Rattle.adjacency.specs.Adjacency.{conflict_of, stitch_of, tie_of, is_pair, RowTo, Adjacency, Ties};
 ghost use Rattle.adjacency.specs.Kinds.{is_conflict, is_stitch, is_tie};
 
 use crate::reach::Reach;
 use bitset::Matrix;
-use rules::{Edge, Piece, Settings};
+use rules::{Edge, ValidLayer};
 
 // The edges of both kinds. They take 64 KB of stack, so what fills them is lent them, and none is copied.
 #[derive(Drop)]
@@ -47,43 +45,28 @@ fn join_by(edge: Edge, i: usize, j: usize, edges: &mut EdgeSets, ties: &mut Matr
 }
 
 // Adds the edges and ties between piece j and the pieces before it.
-#[tactic(auto, using(rules::proofs::Ranges::settings_facts))]
-fn adjacency_row(
-    settings: Settings,
-    pieces: &[Piece],
-    j: usize,
-    edges: &mut EdgeSets,
-    ties: &mut Matrix,
-)
-    requires j_bound { j < length pieces.now }
-    requires few { length pieces.now ≤ 512 }
-    requires settings_value { settings_in_range settings ≡ true }
-    requires by_index { (i : ℕ) → i ≤ j → piece_in_range (piece_at pieces.now i) ≡ true }
-    ensures conflicts { RowTo (conflict_of settings pieces.now) j j edges.old.conflicts edges.new.conflicts }
-    ensures stitches { RowTo (stitch_of settings pieces.now) j j edges.old.stitches edges.new.stitches }
-    ensures ties { RowTo (tie_of settings pieces.now) j j ties.old ties.new }
+#[tactic(auto, using(rules::proofs::Validity::layer_facts))]
+fn adjacency_row(layer: &ValidLayer, j: usize, edges: &mut EdgeSets, ties: &mut Matrix)
+    requires { j < length layer.now.pieces.now }
+    ensures conflicts { RowTo (conflict_of layer.now.settings layer.now.pieces.now) j j edges.old.conflicts edges.new.conflicts }
+    ensures stitches { RowTo (stitch_of layer.now.settings layer.now.pieces.now) j j edges.old.stitches edges.new.stitches }
+    ensures ties { RowTo (tie_of layer.now.settings layer.now.pieces.now) j j ties.old ties.new }
 {
-    let reach = Reach::of(settings, pieces[j]);
-    for (i, earlier) in pieces[..j].iter().enumerate() {
+    let reach = Reach::of(layer, j);
+    for (i, earlier) in layer.pieces[..j].iter().enumerate() {
         join_by(reach.edge_from(*earlier), i, j, edges, ties);
     }
 }
 
 // Fills the words of edges and ties, whatever was in them.
-pub fn adjacency_words(
-    settings: Settings,
-    pieces: &[Piece],
-    edges: &mut EdgeSets,
-    ties: &mut Matrix,
-)
-    requires { Valid settings pieces.now }
-    ensures adjacency { Adjacency settings pieces.now (length pieces.now) edges.new.conflicts edges.new.stitches }
-    ensures ties { Ties settings pieces.now (length pieces.now) ties.new }
+pub fn adjacency_words(layer: &ValidLayer, edges: &mut EdgeSets, ties: &mut Matrix)
+    ensures adjacency { Adjacency layer.now.settings layer.now.pieces.now (length layer.now.pieces.now) edges.new.conflicts edges.new.stitches }
+    ensures ties { Ties layer.now.settings layer.now.pieces.now (length layer.now.pieces.now) ties.new }
 {
     edges.conflicts.clear();
     edges.stitches.clear();
     ties.clear();
-    for j in 0..pieces.len() {
-        adjacency_row(settings, pieces, j, edges, ties);
+    for j in 0..layer.pieces.len() {
+        adjacency_row(layer, j, edges, ties);
     }
 }

@@ -19,6 +19,7 @@ use Rattle.rules.specs.Questions.{Outcome, done, refused, ask, ask_each, judge_p
 use Rattle.rules.specs.Refusals.{Ends, accepts, OfRecords, settings_or_count, range, fixed_range, area, overlap, fixed_split}
 use Rattle.rules.proofs.Lists.{any_out, out_any, in_up_to}
 use Rattle.rules.proofs.Outcomes.{ends_then, ends_map, ends_ask, ends_each, accepted, each_passes, then_assoc}
+use Rattle.rules.proofs.Ranges.{SettingsFacts, settings_facts, within_facts}
 
 -- ---- What is true of a layer that passes
 
@@ -129,3 +130,15 @@ valid_unrefused s ps = (λ v number place e. never v e, λ n. go (judge_layer s 
     go : (o : Outcome (Unit {0})) → judge_layer s ps ≡ o → ((number : ℕ) (place : Place) → judge_layer s ps ≡ refused number place → ⊥) → judge_layer s ps ≡ done tt
     go (done _) e n = e
     go (refused number place) e n = absurd (n number place e)
+
+-- what a function may know of a layer that was judged
+pub record LayerFacts (s : Settings) (ps : List Piece) : Type 0 where
+  pub in_range : settings_in_range s ≡ true
+  pub settings : SettingsFacts s
+  pub few : length ps ≤ 512
+  pub pieces : (i : ℕ) → i < length ps → piece_in_range (piece_at ps i) ≡ true
+
+pub layer_facts : (s : Settings) (ps : List Piece) → Valid s ps → LayerFacts s ps
+layer_facts s ps v =
+    let f = valid_sound s ps v in
+    record { in_range = f.settings; settings = settings_facts s f.settings; few = (within_facts 0 512 (length ps) f.count).high; pieces = f.ranges }

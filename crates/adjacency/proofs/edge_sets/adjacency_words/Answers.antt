@@ -1,6 +1,4 @@
 use Rattle.std.proofs.Common.{◌≡◌, length, arith}
-use Rattle.rules.proofs.Reading.{few}
-use Rattle.rules.proofs.Validity.{valid_sound}
 use Rattle.adjacency.proofs.AdjacencyLaws.{rows_none, rows_more, rows_adjacency, rows_ties}
 use Rattle.adjacency.proofs.edge_sets.adjacency_words.Goals as goal
 
@@ -11,16 +9,6 @@ loop-j-init c = record {
   ties = rows_none _ c.clear-3.ensures;
 }
 
-pub adjacency_row-requires : goal.adjacency_row-requires
-adjacency_row-requires c =
-    let f = valid_sound _ _ c.requires in
-    record {
-      j_bound = c.loop-j-test.true;
-      few = few _ f.count;
-      settings_value = f.settings;
-      by_index = λ i h. f.ranges i (omega arith);
-    }
-
 pub loop-j-preserved : goal.loop-j-preserved
 loop-j-preserved c = record {
   conflicts = rows_more _ _ c.loop-j.invariant.conflicts c.adjacency_row.ensures.conflicts;
@@ -30,8 +18,8 @@ loop-j-preserved c = record {
 
 pub returns : goal.returns
 returns c =
-    let e : c.loop-j.j ≡ length c.args.pieces.now = omega arith in
+    let e : c.loop-j.j ≡ length c.args.layer.now.pieces.now = omega arith in
     record {
-      adjacency = rows_adjacency _ _ c.requires (rw e at c.loop-j.invariant.conflicts) (rw e at c.loop-j.invariant.stitches);
-      ties = rows_ties _ _ c.requires (rw e at c.loop-j.invariant.ties);
+      adjacency = rows_adjacency _ _ c.args.layer.now.valid (rw e at c.loop-j.invariant.conflicts) (rw e at c.loop-j.invariant.stitches);
+      ties = rows_ties _ _ c.args.layer.now.valid (rw e at c.loop-j.invariant.ties);
     }

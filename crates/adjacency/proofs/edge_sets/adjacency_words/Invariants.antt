@@ -5,7 +5,7 @@ use Rattle.adjacency.proofs.edge_sets.adjacency_words.Given as goal
 
 abbrev pub invariant-loop-j : goal.invariant-loop-j
 invariant-loop-j l = record {
-  conflicts : Rows (conflict_of l.settings l.pieces) l.j l.edges.conflicts;
-  stitches : Rows (stitch_of l.settings l.pieces) l.j l.edges.stitches;
-  ties : Rows (tie_of l.settings l.pieces) l.j l.ties;
+  conflicts : Rows (conflict_of l.layer.settings l.layer.pieces.now) l.j l.edges.conflicts;
+  stitches : Rows (stitch_of l.layer.settings l.layer.pieces.now) l.j l.edges.stitches;
+  ties : Rows (tie_of l.layer.settings l.layer.pieces.now) l.j l.ties;
 }
