@@ -2,12 +2,12 @@
 // Reading, writing, scoring and the decomposition stand on this crate.
 #![tactic(auto)]
 
-ghost use Rattle.std.specs.Prelude.{◌≡◌, ◌≤◌, length};
-ghost use Rattle.rules.specs.Answers.{answer_of};
+ghost use Rattle.std.specs.Prelude.{◌≡◌, ◌≤◌, length, IfOk};
+ghost use Rattle.rules.specs.Answers.{answer_of, judged};
 ghost use Rattle.rules.specs.Questions.{judge_fixed, judge_layer};
 
 use bitset::Matrix;
-use rules::{Piece, Refusal, Refused, Settings, stated_mask};
+use rules::{Piece, Refusal, Refused, Settings, ValidLayer, stated_mask};
 
 // Question 14 by the units of the pieces: the first piece that differs from an earlier one is the first that differs from the lowest one with a fixed mask.
 fn judge_units(settings: Settings, pieces: &[Piece]) -> Result<(), Refused>
@@ -37,11 +37,13 @@ pub fn judge_fixed(settings: Settings, pieces: &[Piece]) -> Result<(), Refused>
     judge_units(settings, pieces)
 }
 
-// The whole judgement of the layer of these pieces: questions 4 to 6 and 13, then 14.
+// The whole judgement of the layer of these pieces: questions 4 to 6 and 13, then 14. A layer that passes is handed on as a judged one.
 #[tactic(auto, using(crate::proofs::FixedLaws::records_few), unfolding(rules::specs::Questions::judge_layer))]
-pub fn judge(settings: Settings, pieces: &[Piece]) -> Result<(), Refused>
-    ensures { answer_of result ≡ judge_layer settings pieces.now }
+pub fn judge<'a>(settings: Settings, pieces: &'a [Piece]) -> Result<ValidLayer<'a>, Refused>
+    ensures answer { judged result ≡ judge_layer settings pieces.now }
+    ensures layer { IfOk result (λ l. (l.settings ≡ settings) × (l.pieces.now ≡ pieces.now)) }
 {
     layout::judge(settings, pieces)?;
-    judge_fixed(settings, pieces)
+    judge_fixed(settings, pieces)?;
+    Ok(ValidLayer { settings, pieces })
 }

@@ -2,12 +2,10 @@
 // stitch or a tie. Tests are counted where they are made, whether the ends of the pair are set or not. Scoring stands on this crate.
 #![tactic(auto)]
 
-ghost use Rattle.std.specs.Prelude.{true, ◌≡◌, ℕ, ◌<◌, ◌≤◌, length};
+ghost use Rattle.std.specs.Prelude.{◌≡◌, ◌<◌, length};
 ghost use Rattle.rules.specs.Basics.{sum_to};
 ghost use Rattle.rules.specs.Edges.{graph_of};
-ghost use Rattle.rules.specs.Questions.{Valid};
 ghost use Rattle.rules.specs.Score.{conflicts_of, stitches_of, pairs_of};
-ghost use Rattle.rules.specs.Settings.{settings_in_range, piece_in_range, piece_at};
 ghost use Rattle.adjacency.specs.Adjacency.{tie_of, RowTo, Ties};
 ghost use Rattle.pair_tests.specs.PairTests.{conflict_at, stitch_at};
 
@@ -15,31 +13,22 @@ mod tally;
 
 use adjacency::Reach;
 use bitset::Matrix;
-use rules::{Edge, Piece, Settings};
+use rules::{Edge, ValidLayer};
 pub use tally::Tally;
 
 // Tests piece j with each piece before it. Those that are tied are joined.
-#[tactic(auto, using(rules::proofs::Ranges::settings_facts))]
-fn test_row(
-    settings: Settings,
-    pieces: &[Piece],
-    masks: &[u8],
-    j: usize,
-    ties: &mut Matrix,
-) -> Tally
-    requires j_bound { j < length pieces.now }
-    requires few { length pieces.now ≤ 512 }
-    requires masks_len { length masks.now ≡ length pieces.now }
-    requires settings_value { settings_in_range settings ≡ true }
-    requires by_index { (i : ℕ) → i ≤ j → piece_in_range (piece_at pieces.now i) ≡ true }
+#[tactic(auto, using(rules::proofs::Validity::layer_facts))]
+fn test_row(layer: &ValidLayer, masks: &[u8], j: usize, ties: &mut Matrix) -> Tally
+    requires j_bound { j < length layer.now.pieces.now }
+    requires masks_len { length masks.now ≡ length layer.now.pieces.now }
     ensures tested_value { result.tested ≡ sum_to (λ u. 1) j }
-    ensures conflicts_value { result.conflicts ≡ sum_to (λ u. conflict_at settings pieces.now masks.now u j) j }
-    ensures stitches_value { result.stitches ≡ sum_to (λ u. stitch_at settings pieces.now masks.now u j) j }
-    ensures row_to { RowTo (tie_of settings pieces.now) j j ties.old ties.new }
+    ensures conflicts_value { result.conflicts ≡ sum_to (λ u. conflict_at layer.now.settings layer.now.pieces.now masks.now u j) j }
+    ensures stitches_value { result.stitches ≡ sum_to (λ u. stitch_at layer.now.settings layer.now.pieces.now masks.now u j) j }
+    ensures row_to { RowTo (tie_of layer.now.settings layer.now.pieces.now) j j ties.old ties.new }
 {
-    let reach = Reach::of(settings, pieces[j]);
+    let reach = Reach::of(layer, j);
     let mut tally = Tally::none();
-    for (i, earlier) in pieces[..j].iter().enumerate() {
+    for (i, earlier) in layer.pieces[..j].iter().enumerate() {
         let edge = reach.edge_from(*earlier);
         tally.add(edge, masks[i], masks[j]);
         if let Edge::Tie = edge {
@@ -49,19 +38,18 @@ fn test_row(
     tally
 }
 
-// Tests every pair of the pieces of a judged layer. Fills the words of ties, whatever was in them.
-pub fn test_pairs(settings: Settings, pieces: &[Piece], masks: &[u8], ties: &mut Matrix) -> Tally
-    requires valid { Valid settings pieces.now }
-    requires masks_len { length masks.now ≡ length pieces.now }
-    ensures tested_value { result.tested ≡ pairs_of (length pieces.now) }
-    ensures conflicts_value { result.conflicts ≡ conflicts_of (graph_of settings pieces.now) masks.now (length pieces.now) }
-    ensures stitches_value { result.stitches ≡ stitches_of (graph_of settings pieces.now) masks.now (length pieces.now) }
-    ensures ties { Ties settings pieces.now (length pieces.now) ties.new }
+// Tests every pair of the pieces of a layer. Fills the words of ties, whatever was in them.
+pub fn test_pairs(layer: &ValidLayer, masks: &[u8], ties: &mut Matrix) -> Tally
+    requires { length masks.now ≡ length layer.now.pieces.now }
+    ensures tested_value { result.tested ≡ pairs_of (length layer.now.pieces.now) }
+    ensures conflicts_value { result.conflicts ≡ conflicts_of (graph_of layer.now.settings layer.now.pieces.now) masks.now (length layer.now.pieces.now) }
+    ensures stitches_value { result.stitches ≡ stitches_of (graph_of layer.now.settings layer.now.pieces.now) masks.now (length layer.now.pieces.now) }
+    ensures ties { Ties layer.now.settings layer.now.pieces.now (length layer.now.pieces.now) ties.new }
 {
     ties.clear();
     let mut tally = Tally::none();
-    for j in 0..pieces.len() {
-        let row = test_row(settings, pieces, masks, j, ties);
+    for j in 0..layer.pieces.len() {
+        let row = test_row(layer, masks, j, ties);
         tally.tested += row.tested;
         tally.conflicts += row.conflicts;
         tally.stitches += row.stitches;

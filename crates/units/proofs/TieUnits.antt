@@ -15,8 +15,7 @@ use Rattle.rules.specs.Questions.{Valid}
 use Rattle.rules.specs.Units.{tie_graph, units_of, unit_of, part_of}
 use Rattle.rules.proofs.Edges.{tie_sym}
 use Rattle.rules.proofs.Lists.{in_up_to}
-use Rattle.rules.proofs.Reading.{few}
-use Rattle.rules.proofs.Validity.{valid_sound}
+use Rattle.rules.proofs.Validity.{layer_facts}
 use Rattle.adjacency.specs.Adjacency.{Ties, word_graph, BothWays}
 use Rattle.adjacency.specs.UnitGraph.{unit_at}
 use Rattle.adjacency.proofs.AdjacencyLaws.{words_symmetric, words_edges}
@@ -28,12 +27,9 @@ use Rattle.units.specs.Numbered.{Numbered, UnitsOf}
 front_length : (n : ℕ) → n ≤ 512 → length (take n (replicate {A = ℕ} 512 0)) ≡ n
 front_length n few = length-take-le n (replicate 512 0) few
 
--- a judged layer has few pieces, and the front of a new array has room for a number of each
-pub few_pieces : (s : Settings) (ps : List Piece) → Valid s ps → length ps ≤ 512
-few_pieces s ps valid = few (length ps) (valid_sound s ps valid).count
-
+-- the front of a new array has room for a number of each piece of a judged layer
 pub new_front : (s : Settings) (ps : List Piece) → Valid s ps → length (take (length ps) (replicate {A = ℕ} 512 0)) ≡ length ps
-new_front s ps valid = front_length (length ps) (few_pieces s ps valid)
+new_front s ps valid = front_length (length ps) (layer_facts s ps valid).few
 
 module _ (s : Settings) (ps : List Piece) {ties : List ℕ} (holds : Ties s ps (length ps) ties) where
   pub ties_ways : BothWays ties

@@ -2,14 +2,13 @@
 // piece is numbered once, however long a chain of ties is.
 ghost use Rattle.std.specs.Prelude.{true, ◌≡◌, ℕ, ◌≤◌, ◌<◌, length};
 ghost use Rattle.bitset.specs.Bits.{member};
-ghost use Rattle.rules.specs.Questions.{Valid};
 ghost use Rattle.adjacency.specs.Adjacency.{Adjacency, BothWays};
 ghost use Rattle.units.specs.Steps.{GivenNumber};
 ghost use Rattle.units.specs.Numbered.{Numbered, UnitsOf};
 
 use adjacency::EdgeSets;
 use bitset::{BitSet, Matrix};
-use rules::{Piece, Settings};
+use rules::ValidLayer;
 
 // Gives every member of a unit its number.
 fn give_number(members: &BitSet, number: usize, units: &mut [u16])
@@ -39,20 +38,14 @@ pub fn number_units(ties: &Matrix, units: &mut [u16]) -> BitSet
     numbers
 }
 
-// Fills the words of edges of a judged layer, and numbers its units. Answers the set of the units' numbers.
-#[tactic(auto, using(crate::proofs::TieUnits::few_pieces))]
-pub fn layer_units(
-    settings: Settings,
-    pieces: &[Piece],
-    edges: &mut EdgeSets,
-    units: &mut [u16],
-) -> BitSet
-    requires valid { Valid settings pieces.now }
-    requires units_len { length units.old ≡ length pieces.now }
-    ensures adjacency { Adjacency settings pieces.now (length pieces.now) edges.new.conflicts edges.new.stitches }
-    ensures units_of { UnitsOf settings pieces.now units.new result }
+// Fills the words of edges of a layer, and numbers its units. Answers the set of the units' numbers.
+#[tactic(auto, using(rules::proofs::Validity::layer_facts))]
+pub fn layer_units(layer: &ValidLayer, edges: &mut EdgeSets, units: &mut [u16]) -> BitSet
+    requires { length units.old ≡ length layer.now.pieces.now }
+    ensures adjacency { Adjacency layer.now.settings layer.now.pieces.now (length layer.now.pieces.now) edges.new.conflicts edges.new.stitches }
+    ensures units_of { UnitsOf layer.now.settings layer.now.pieces.now units.new result }
 {
     let mut ties = Matrix::empty();
-    adjacency::adjacency_words(settings, pieces, edges, &mut ties);
+    adjacency::adjacency_words(layer, edges, &mut ties);
     number_units(&ties, units)
 }

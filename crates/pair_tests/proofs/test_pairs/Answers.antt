@@ -4,9 +4,8 @@ use native.Mathlib.Omega.{arith}
 use lib.ListN.{length}
 use Rattle.rules.specs.Basics.{sum_to, sum_pairs}
 use Rattle.pair_tests.specs.PairTests.{conflict_at, stitch_at}
-use Rattle.rules.proofs.Reading.{few}
 use Rattle.rules.proofs.Sums.{pairs_more, pairs_count}
-use Rattle.rules.proofs.Validity.{valid_sound}
+use Rattle.rules.proofs.Validity.{layer_facts}
 use Rattle.adjacency.proofs.AdjacencyLaws.{rows_none, rows_more, rows_ties}
 use Rattle.pair_tests.proofs.PairLaws.{conflict_le, stitch_le, pairs_conflicts, pairs_stitches}
 use Rattle.pair_tests.proofs.test_pairs.Goals as goal
@@ -16,33 +15,24 @@ pub loop-j-init : goal.loop-j-init
 unfolding sum_pairs sum_to
 loop-j-init c = rw c.none-tally.ensures (record { tested = refl; conflicts = refl; stitches = refl; ties = rows_none _ c.clear.ensures })
 
-pub test_row-row-requires-clause-few : goal.test_row-row-requires-clause-few
-test_row-row-requires-clause-few c = few _ (valid_sound _ _ c.requires.valid).count
-
-pub test_row-row-requires-clause-settings_value : goal.test_row-row-requires-clause-settings_value
-test_row-row-requires-clause-settings_value c = (valid_sound _ _ c.requires.valid).settings
-
-pub test_row-row-requires-clause-by_index : goal.test_row-row-requires-clause-by_index
-test_row-row-requires-clause-by_index c = λ i h. (valid_sound _ _ c.requires.valid).ranges i (omega arith)
-
 -- the numbers after this turn, which are at most 1 for each pair
 module _ (c : After-test_row-row) where
   inside : c.loop-j.j < 512
-  inside = omega (arith, few (length c.args.pieces.now) (valid_sound c.args.settings c.args.pieces.now c.requires.valid).count)
+  inside = omega (arith, (layer_facts _ _ c.args.layer.now.valid).few)
 
   tested : (c.loop-j.tally.tested + c.test_row-row.result.tested ≡ sum_pairs (λ u v. 1) (c.loop-j.j + 1))
       × (c.loop-j.tally.tested + c.test_row-row.result.tested ≤ 130_816)
   tested = pairs_more (λ u v. 1) _ (λ u v. omega arith) inside c.loop-j.invariant.tested c.test_row-row.ensures.tested_value
 
   conflicts : let a = c.args in
-      (c.loop-j.tally.conflicts + c.test_row-row.result.conflicts ≡ sum_pairs (conflict_at a.settings a.pieces.now a.masks.now) (c.loop-j.j + 1))
+      (c.loop-j.tally.conflicts + c.test_row-row.result.conflicts ≡ sum_pairs (conflict_at a.layer.now.settings a.layer.now.pieces.now a.masks.now) (c.loop-j.j + 1))
       × (c.loop-j.tally.conflicts + c.test_row-row.result.conflicts ≤ 130_816)
-  conflicts = pairs_more _ _ (conflict_le c.args.settings c.args.pieces.now c.args.masks.now) inside c.loop-j.invariant.conflicts c.test_row-row.ensures.conflicts_value
+  conflicts = pairs_more _ _ (conflict_le c.args.layer.now.settings c.args.layer.now.pieces.now c.args.masks.now) inside c.loop-j.invariant.conflicts c.test_row-row.ensures.conflicts_value
 
   stitches : let a = c.args in
-      (c.loop-j.tally.stitches + c.test_row-row.result.stitches ≡ sum_pairs (stitch_at a.settings a.pieces.now a.masks.now) (c.loop-j.j + 1))
+      (c.loop-j.tally.stitches + c.test_row-row.result.stitches ≡ sum_pairs (stitch_at a.layer.now.settings a.layer.now.pieces.now a.masks.now) (c.loop-j.j + 1))
       × (c.loop-j.tally.stitches + c.test_row-row.result.stitches ≤ 130_816)
-  stitches = pairs_more _ _ (stitch_le c.args.settings c.args.pieces.now c.args.masks.now) inside c.loop-j.invariant.stitches c.test_row-row.ensures.stitches_value
+  stitches = pairs_more _ _ (stitch_le c.args.layer.now.settings c.args.layer.now.pieces.now c.args.masks.now) inside c.loop-j.invariant.stitches c.test_row-row.ensures.stitches_value
 
 pub overflow_add-tally : goal.overflow_add-tally
 overflow_add-tally c = omega (arith, tested (goal.at.overflow_add-tally c).After-test_row-row)
@@ -65,8 +55,8 @@ loop-j-preserved c =
 
 pub returns : goal.returns
 returns c =
-    let s = c.args.settings in
-    let ps = c.args.pieces.now in
+    let s = c.args.layer.now.settings in
+    let ps = c.args.layer.now.pieces.now in
     let masks = c.args.masks.now in
     let all = c.loop-j.invariant in
     let e : c.loop-j.j ≡ length ps = omega arith in
@@ -74,5 +64,5 @@ returns c =
       tested_value = rw e at all.tested ∙ pairs_count (length ps);
       conflicts_value = rw e at all.conflicts ∙ pairs_conflicts s ps masks (length ps);
       stitches_value = rw e at all.stitches ∙ pairs_stitches s ps masks (length ps);
-      ties = rows_ties s ps c.requires.valid (rw e at all.ties);
+      ties = rows_ties s ps c.args.layer.now.valid (rw e at all.ties);
     }

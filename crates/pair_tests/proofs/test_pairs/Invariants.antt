@@ -9,7 +9,7 @@ use Rattle.pair_tests.proofs.test_pairs.Given as goal
 abbrev pub invariant-loop-j : goal.invariant-loop-j
 invariant-loop-j l = record {
   tested : l.tally.tested ≡ sum_pairs (λ u v. 1) l.j;
-  conflicts : l.tally.conflicts ≡ sum_pairs (conflict_at l.fn.settings l.fn.pieces l.fn.masks) l.j;
-  stitches : l.tally.stitches ≡ sum_pairs (stitch_at l.fn.settings l.fn.pieces l.fn.masks) l.j;
-  ties : Rows (tie_of l.fn.settings l.fn.pieces) l.j l.ties;
+  conflicts : l.tally.conflicts ≡ sum_pairs (conflict_at l.fn.layer.settings l.fn.layer.pieces.now l.fn.masks) l.j;
+  stitches : l.tally.stitches ≡ sum_pairs (stitch_at l.fn.layer.settings l.fn.layer.pieces.now l.fn.masks) l.j;
+  ties : Rows (tie_of l.fn.layer.settings l.fn.layer.pieces.now) l.j l.ties;
 }

@@ -24,15 +24,15 @@ loop-i-init c = rw c.none-tally.ensures (record { tested = refl; conflicts = ref
 
 module _ (c : After-edge_from-edge) where
   below : c.loop-i.i < c.args.j
-  below = omega (arith, length-take-le c.args.j c.args.pieces.now (omega arith))
+  below = omega (arith, length-take-le c.args.j c.args.layer.now.pieces.now (omega arith))
 
   -- the edge that the test found
-  edge : c.edge_from-edge.result ≡ edge_of c.args.settings (piece_at c.args.pieces.now c.loop-i.i) (piece_at c.args.pieces.now c.args.j)
-  edge = rw (get_or-take c.args.j c.args.pieces.now c.loop-i.i no_piece below, c.of-reach.ensures.settings, c.of-reach.ensures.piece) at c.edge_from-edge.ensures
+  edge : c.edge_from-edge.result ≡ edge_of c.args.layer.now.settings (piece_at c.args.layer.now.pieces.now c.loop-i.i) (piece_at c.args.layer.now.pieces.now c.args.j)
+  edge = rw (get_or-take c.args.j c.args.layer.now.pieces.now c.loop-i.i no_piece below, c.of-reach.ensures.settings, c.of-reach.ensures.piece) at c.edge_from-edge.ensures
 
   -- the two are tied where it is a tie
-  tied : tie_of c.args.settings c.args.pieces.now c.loop-i.i c.args.j ≡ is_tie c.edge_from-edge.result
-  tied = rw edge (sym (tie_kind c.args.settings _ _))
+  tied : tie_of c.args.layer.now.settings c.args.layer.now.pieces.now c.loop-i.i c.args.j ≡ is_tie c.edge_from-edge.result
+  tied = rw edge (sym (tie_kind c.args.layer.now.settings _ _))
 
 other : (e : Edge) → (e ≡ Edge.Tie → ⊥) → is_tie e ≡ false
 other Edge.Conflict n = refl
@@ -44,10 +44,12 @@ pub add-requires : goal.add-requires
 add-requires c =
     let at = (goal.at.add-requires c).After-edge_from-edge in
     let a = c.args in
+    let s = a.layer.now.settings in
+    let ps = a.layer.now.pieces.now in
     let i = c.loop-i.i in
     let low = below at in
-    let conflicts = sum_le (λ u. conflict_at a.settings a.pieces.now a.masks.now u a.j) i (λ u. conflict_le a.settings a.pieces.now a.masks.now u a.j) in
-    let stitches = sum_le (λ u. stitch_at a.settings a.pieces.now a.masks.now u a.j) i (λ u. stitch_le a.settings a.pieces.now a.masks.now u a.j) in
+    let conflicts = sum_le (λ u. conflict_at s ps a.masks.now u a.j) i (λ u. conflict_le s ps a.masks.now u a.j) in
+    let stitches = sum_le (λ u. stitch_at s ps a.masks.now u a.j) i (λ u. stitch_le s ps a.masks.now u a.j) in
     record {
       tested_bound = omega (arith, c.loop-i.invariant.tested, sum_le (λ u. 1) i (λ u. omega arith));
       conflicts_bound = omega (arith, c.loop-i.invariant.conflicts, conflicts);
@@ -58,8 +60,8 @@ pub loop-i-preserved : goal.loop-i-preserved
 loop-i-preserved c =
     let at = (goal.at.loop-i-preserved c).After-edge_from-edge in
     let a = c.args in
-    let s = a.settings in
-    let ps = a.pieces.now in
+    let s = a.layer.now.settings in
+    let ps = a.layer.now.pieces.now in
     let masks = a.masks.now in
     let i = c.loop-i.i in
     let row = c.loop-i.invariant in
@@ -77,7 +79,7 @@ loop-i-preserved c =
 pub returns : goal.returns
 returns c =
     let all = c.loop-i.invariant in
-    let e : c.loop-i.i ≡ c.args.j = omega (arith, length-take-le c.args.j c.args.pieces.now (omega arith)) in
+    let e : c.loop-i.i ≡ c.args.j = omega (arith, length-take-le c.args.j c.args.layer.now.pieces.now (omega arith)) in
     record {
       tested_value = rw e at all.tested;
       conflicts_value = rw e at all.conflicts;
