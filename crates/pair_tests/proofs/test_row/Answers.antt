@@ -9,6 +9,7 @@ use Rattle.rules.specs.Edges.{edge_of}
 use Rattle.rules.specs.Settings.{piece_at, no_piece}
 use Rattle.rules.proofs.Edges.{tie_sym}
 use Rattle.rules.proofs.Sums.{sum_more, sum_le}
+use Rattle.rules.proofs.Validity.{layer_facts}
 use Rattle.adjacency.specs.Adjacency.{tie_of}
 use Rattle.adjacency.specs.Kinds.{is_tie}
 use Rattle.adjacency.proofs.KindLaws.{tie_kind}
@@ -34,6 +35,15 @@ module _ (c : After-edge_from-edge) where
   tied : tie_of c.args.layer.now.settings c.args.layer.now.pieces.now c.loop-i.i c.args.j ≡ is_tie c.edge_from-edge.result
   tied = rw edge (sym (tie_kind c.args.layer.now.settings _ _))
 
+pub edge_from-edge-requires : goal.edge_from-edge-requires
+edge_from-edge-requires c =
+    let ps = c.args.layer.now.pieces.now in
+    let low : c.loop-i.i < c.args.j = omega (arith, length-take-le c.args.j ps (omega arith)) in
+    rw (get_or-take c.args.j ps c.loop-i.i no_piece low) ((layer_facts _ ps c.args.layer.now.valid).pieces c.loop-i.i (omega arith))
+
+pub join-requires-clause-i_bound : goal.join-requires-clause-i_bound
+join-requires-clause-i_bound c = omega (arith, below (goal.at.join-requires-clause-i_bound c).After-edge_from-edge, (layer_facts _ _ c.args.layer.now.valid).few)
+
 other : (e : Edge) → (e ≡ Edge.Tie → ⊥) → is_tie e ≡ false
 other Edge.Conflict n = refl
 other Edge.Stitch n = refl
@@ -48,6 +58,7 @@ add-requires c =
     let ps = a.layer.now.pieces.now in
     let i = c.loop-i.i in
     let low = below at in
+    let few = (layer_facts s ps a.layer.now.valid).few in
     let conflicts = sum_le (λ u. conflict_at s ps a.masks.now u a.j) i (λ u. conflict_le s ps a.masks.now u a.j) in
     let stitches = sum_le (λ u. stitch_at s ps a.masks.now u a.j) i (λ u. stitch_le s ps a.masks.now u a.j) in
     record {
