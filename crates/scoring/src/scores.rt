@@ -2,13 +2,13 @@
 ghost use Rattle.std.specs.Prelude.{◌≡◌, ◌≤◌, length};
 ghost use Rattle.rules.specs.Answers.{answer_of};
 ghost use Rattle.rules.specs.Calls.{score_masks};
-ghost use Rattle.rules.specs.Questions.{ask_each, Valid};
+ghost use Rattle.rules.specs.Questions.{ask_each};
 ghost use Rattle.scoring.specs.MaskQuestions.{mask_question, tallied, units_scored};
 
 use bitset::Matrix;
 use counting::cost_of;
 use pair_tests::{Tally, test_pairs};
-use rules::{Piece, Place, Refusal, Refused, Score, Scoring, Settings, mask_in_range};
+use rules::{Piece, Place, Refusal, Refused, Score, Scoring, Settings, ValidLayer, mask_in_range};
 
 // Question 8 of each mask.
 fn judge_masks(limit: u32, masks: &[u8]) -> Result<(), Refused>
@@ -40,30 +40,29 @@ fn scoring_of(weight: u32, tally: Tally) -> Scoring
     }
 }
 
-// The score of masks on a judged layer, or refusal 12.
-#[tactic(auto, using(units::proofs::TieUnits::few_pieces, units::proofs::TieUnits::new_front))]
-fn score_units(settings: Settings, pieces: &[Piece], masks: &[u8]) -> Result<Scoring, Refused>
-    requires valid { Valid settings pieces.now }
-    requires masks_len { length masks.now ≡ length pieces.now }
-    ensures { answer_of result ≡ units_scored settings pieces.now masks.now }
+// The score of masks on a layer, or refusal 12.
+#[tactic(auto, using(rules::proofs::Validity::layer_facts, units::proofs::TieUnits::new_front))]
+fn score_units(layer: &ValidLayer, masks: &[u8]) -> Result<Scoring, Refused>
+    requires { length masks.now ≡ length layer.now.pieces.now }
+    ensures { answer_of result ≡ units_scored layer.now.settings layer.now.pieces.now masks.now }
 {
     let mut ties = Matrix::empty();
     let mut units = [0u16; 512];
-    let units = &mut units[..pieces.len()];
-    let tally = test_pairs(settings, pieces, masks, &mut ties);
+    let units = &mut units[..layer.pieces.len()];
+    let tally = test_pairs(layer, masks, &mut ties);
     units::number_units(&ties, units);
     units::judge_masks(Refusal::Split, units, masks)?;
-    Ok(scoring_of(settings.weight, tally))
+    Ok(scoring_of(layer.settings.weight, tally))
 }
 
 // The score of any masks on any pieces, with the number of pairs tested, or the first of the refusals 4 to 6, 13, 14, 7, 8 and 12.
 pub fn score(settings: Settings, pieces: &[Piece], masks: &[u8]) -> Result<Scoring, Refused>
     ensures { answer_of result ≡ score_masks settings pieces.now masks.now }
 {
-    fixed_masks::judge(settings, pieces)?;
+    let layer = fixed_masks::judge(settings, pieces)?;
     if masks.len() != pieces.len() {
         return Err(Refusal::MaskCount.at(Place::Nothing));
     }
     judge_masks(settings.masks, masks)?;
-    score_units(settings, pieces, masks)
+    score_units(&layer, masks)
 }

@@ -3,37 +3,36 @@ use mathlib.Core.Path.{ap, ◌∙◌}
 use Prim.Native.Nat.{◌≤◌}
 use Rattle.std.proofs.lemmas.Result.{err_from_is_err_and}
 use Rattle.rules.specs.Questions.{done}
-use Rattle.rules.proofs.Ranges.{settings_facts}
-use Rattle.rules.proofs.Validity.{valid_sound}
+use Rattle.rules.proofs.Validity.{layer_facts}
 use Rattle.units.specs.Numbered.{UnitsOf}
-use Rattle.units.proofs.TieUnits.{ties_ways, few_pieces, front_numbered}
+use Rattle.units.proofs.TieUnits.{ties_ways, front_numbered}
 use Rattle.scoring.proofs.TallyLaws.{few_pairs, tally_scoring}
 use Rattle.scoring.proofs.QuestionLaws.{unit_masked, split_asked}
 use Rattle.scoring.proofs.scores.score_units.Goals as goal
 use Rattle.scoring.proofs.scores.score_units.Goals.{After-number_units, After-test_pairs-tally}
 
 pub number_units-requires-clause-both_ways : goal.number_units-requires-clause-both_ways
-number_units-requires-clause-both_ways c = ties_ways c.args.settings c.args.pieces.now c.test_pairs-tally.ensures.ties
+number_units-requires-clause-both_ways c = ties_ways c.args.layer.now.settings c.args.layer.now.pieces.now c.test_pairs-tally.ensures.ties
 
 -- the units are the layer's
-numbered : (c : After-number_units) → UnitsOf c.args.settings c.args.pieces.now c.number_units.new.units c.number_units.result
-numbered c = front_numbered _ _ c.test_pairs-tally.ensures.ties (few_pieces c.args.settings c.args.pieces.now c.requires.valid) c.number_units.ensures
+numbered : (c : After-number_units) → UnitsOf c.args.layer.now.settings c.args.layer.now.pieces.now c.number_units.new.units c.number_units.result
+numbered c = front_numbered _ _ c.test_pairs-tally.ensures.ties (layer_facts _ _ c.args.layer.now.valid).few c.number_units.ensures
 
 pub judge_masks-requires-clause-by_index : goal.judge_masks-requires-clause-by_index
-judge_masks-requires-clause-by_index c = unit_masked _ _ c.args.masks.now c.requires.masks_len (numbered (goal.at.judge_masks-requires-clause-by_index c).After-number_units)
+judge_masks-requires-clause-by_index c = unit_masked _ _ c.args.masks.now c.requires (numbered (goal.at.judge_masks-requires-clause-by_index c).After-number_units)
 
 pub returns-in_err-judge_masks : goal.returns-in_err-judge_masks
 returns-in_err-judge_masks c =
     let p = err_from_is_err_and c.from_residual.result c.from_residual.ensures.1 in
     rw (p.1, p.2)
-    (split_asked _ _ c.args.masks.now c.requires.masks_len (numbered (goal.at.returns-in_err-judge_masks c).After-number_units) c.in_err-judge_masks.ensures)
+    (split_asked _ _ c.args.masks.now c.requires (numbered (goal.at.returns-in_err-judge_masks c).After-number_units) c.in_err-judge_masks.ensures)
 
 module _ (c : After-test_pairs-tally) where
   small : (c.test_pairs-tally.result.conflicts ≤ 130_816) × (c.test_pairs-tally.result.stitches ≤ 130_816)
-  small = few_pairs c.args.settings c.args.pieces.now c.args.masks.now c.test_pairs-tally.result c.test_pairs-tally.ensures.conflicts_value c.test_pairs-tally.ensures.stitches_value (few_pieces c.args.settings c.args.pieces.now c.requires.valid)
+  small = few_pairs c.args.layer.now.settings c.args.layer.now.pieces.now c.args.masks.now c.test_pairs-tally.result c.test_pairs-tally.ensures.conflicts_value c.test_pairs-tally.ensures.stitches_value (layer_facts _ _ c.args.layer.now.valid).few
 
 pub scoring_of-requires-clause-weight_bound : goal.scoring_of-requires-clause-weight_bound
-scoring_of-requires-clause-weight_bound c = (settings_facts _ (valid_sound c.args.settings c.args.pieces.now c.requires.valid).settings).weight.high
+scoring_of-requires-clause-weight_bound c = (layer_facts _ _ c.args.layer.now.valid).settings.weight.high
 
 pub scoring_of-requires-clause-conflicts_bound : goal.scoring_of-requires-clause-conflicts_bound
 scoring_of-requires-clause-conflicts_bound c = (small (goal.at.scoring_of-requires-clause-conflicts_bound c).After-test_pairs-tally).0
@@ -44,5 +43,5 @@ scoring_of-requires-clause-stitches_bound c = (small (goal.at.scoring_of-require
 pub returns : goal.returns
 returns c =
     let a = c.args in
-    ap done (c.scoring_of.ensures ∙ tally_scoring a.settings a.pieces.now a.masks.now c.test_pairs-tally.result c.test_pairs-tally.ensures.conflicts_value c.test_pairs-tally.ensures.stitches_value c.test_pairs-tally.ensures.tested_value)
-    ∙ split_asked _ _ a.masks.now c.requires.masks_len (numbered (goal.at.returns c).After-number_units) c.in_ok-judge_masks.ensures
+    ap done (c.scoring_of.ensures ∙ tally_scoring a.layer.now.settings a.layer.now.pieces.now a.masks.now c.test_pairs-tally.result c.test_pairs-tally.ensures.conflicts_value c.test_pairs-tally.ensures.stitches_value c.test_pairs-tally.ensures.tested_value)
+    ∙ split_asked _ _ a.masks.now c.requires (numbered (goal.at.returns c).After-number_units) c.in_ok-judge_masks.ensures
