@@ -25,7 +25,7 @@ use Rattle.rules.specs.Demands.{AgainstLarger}
 use Rattle.rules.specs.Questions.{Outcome, done, refused, Valid}
 use Rattle.rules.proofs.Finding.{find_same}
 use Rattle.rules.proofs.Lists.{◌∈◌, here, in_up_to}
-use Rattle.rules.proofs.Validity.{sound_fixed, valid_sound}
+use Rattle.rules.proofs.Validity.{sound_fixed, valid_sound, layer_facts}
 use Rattle.adjacency.specs.Adjacency.{Adjacency, word_graph}
 use Rattle.adjacency.specs.Members.{members_of}
 use Rattle.adjacency.specs.UnitGraph.{unit_at, unit_graph, fixed_at}
@@ -33,7 +33,6 @@ use Rattle.adjacency.proofs.MemberLaws.{in_members}
 use Rattle.units.specs.Noted.{NotedMasks, fitting}
 use Rattle.units.specs.Numbered.{UnitsOf}
 use Rattle.units.proofs.SplitLaws.{one_splits}
-use Rattle.units.proofs.TieUnits.{few_pieces}
 use Rattle.fixed_masks.proofs.FixedLaws.{masks_length, fixed_asked}
 use Rattle.core_search.specs.declared.UnitGraph.{UnitGraph}
 use Rattle.core_search.specs.Core.{Sound}
@@ -54,7 +53,7 @@ passes_not e = let z : ◌≡◌ {A = ℕ} 0 1 = cc in omega arith
 
 module _ (s : Settings) (ps : List Piece) (valid : Valid s ps) where
   few : length ps ≤ 512
-  few = few_pieces s ps valid
+  few = (layer_facts s ps valid).few
 
   module _ {conflicts stitches units all : List ℕ} (adjacency : Adjacency s ps (length ps) conflicts stitches) (array : UnitsOf s ps units all) where
     array_grouping : Grouping (unit_at units) (length ps)
@@ -176,16 +175,13 @@ module _ (s : Settings) (ps : List Piece) (valid : Valid s ps) where
                 ∙ rw reached_masks
 
             -- the run of the rules
-            pub run_same : {d : Decomposition} → d.conflicts ≡ score.conflicts → d.stitches ≡ score.stitches → d.cost ≡ score.cost → d.steps ≡ r.steps
-                → d.verdict ≡ r.verdict → run_of d after ≡ run s ps
+            pub run_same : {d : Decomposition} → d.score ≡ score → d.steps ≡ r.steps → d.verdict ≡ r.verdict → run_of d after ≡ run s ps
             unfolding run
-            run_same c t w e v =
-                let cs = c ∙ ap (λ (x : Score). x.conflicts) score_same in
-                let ts = t ∙ ap (λ (x : Score). x.stitches) score_same in
-                let ws = w ∙ ap (λ (x : Score). x.cost) score_same in
+            run_same g e v =
+                let gs = g ∙ score_same in
                 let es = e ∙ reached_steps in
                 let vs = v ∙ reached_verdict in
-                λ i. record { masks = reached_masks i; conflicts = cs i; stitches = ts i; cost = ws i; steps = es i; verdict = vs i }
+                λ i. record { masks = reached_masks i; conflicts = (gs i).conflicts; stitches = (gs i).stitches; cost = (gs i).cost; steps = es i; verdict = vs i }
 
   -- demand 3 holds of the run
   pub run_against : {r : Run} → r ≡ run s ps → AgainstLarger s ps r

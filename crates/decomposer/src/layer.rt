@@ -17,9 +17,9 @@ pub fn decompose_layer(
     ensures masks_after_2 { masks.new ≡ masks_after (decompose_layer settings pieces.now masks.old) masks.old }
     ensures demand3of { Demand3Of settings pieces.now (decompose_answer result masks.new) }
 {
-    fixed_masks::judge(settings, pieces)?;
+    let layer = fixed_masks::judge(settings, pieces)?;
     if masks.len() != pieces.len() {
         return Err(Refusal::MaskCount.at(Place::Nothing));
     }
-    Ok(decompose(settings, pieces, masks))
+    Ok(decompose(&layer, masks))
 }

@@ -3,7 +3,6 @@ ghost use Rattle.std.specs.Prelude.{◌≡◌, ◌≤◌, length};
 ghost use Rattle.rules.specs.Answers.{run_of};
 ghost use Rattle.rules.specs.Decomposition.{run};
 ghost use Rattle.rules.specs.Demands.{AgainstLarger};
-ghost use Rattle.rules.specs.Questions.{Valid};
 ghost use Rattle.rules.specs.Units.{spread};
 ghost use Rattle.adjacency.specs.UnitGraph.{unit_at};
 ghost use Rattle.theory.proofs.Merging.{Grouping};
@@ -11,7 +10,7 @@ ghost use Rattle.theory.proofs.Merging.{Grouping};
 use crate::stages::decompose_units;
 use adjacency::EdgeSets;
 use core_search::UnitGraph;
-use rules::{Decomposition, Piece, Settings};
+use rules::{Decomposition, Piece, ValidLayer};
 
 // Gives each piece its unit's mask. A unit's number is no higher than its pieces and has its own mask already.
 fn spread_masks(units: &[u16], masks: &mut [u8])
@@ -25,31 +24,28 @@ fn spread_masks(units: &[u16], masks: &mut [u8])
 }
 
 // The run.
-#[tactic(auto, using(units::proofs::TieUnits::few_pieces, units::proofs::TieUnits::new_front))]
-pub fn decompose(settings: Settings, pieces: &[Piece], masks: &mut [u8]) -> Decomposition
-    requires valid { Valid settings pieces.now }
-    requires masks_len { length masks.old ≡ length pieces.now }
-    ensures masks_after { run_of result masks.new ≡ run settings pieces.now }
-    ensures against_larger { AgainstLarger settings pieces.now (run_of result masks.new) }
+#[tactic(auto, using(rules::proofs::Validity::layer_facts, units::proofs::TieUnits::new_front))]
+pub fn decompose(layer: &ValidLayer, masks: &mut [u8]) -> Decomposition
+    requires { length masks.old ≡ length layer.now.pieces.now }
+    ensures masks_after { run_of result masks.new ≡ run layer.now.settings layer.now.pieces.now }
+    ensures against_larger { AgainstLarger layer.now.settings layer.now.pieces.now (run_of result masks.new) }
 {
     let mut edges = EdgeSets::empty();
     let mut units = [0u16; 512];
-    let units = &mut units[..pieces.len()];
-    let all = units::layer_units(settings, pieces, &mut edges, units);
+    let units = &mut units[..layer.pieces.len()];
+    let all = units::layer_units(layer, &mut edges, units);
     let mut noted = [Piece::UNSET; 512];
-    let given = units::fixed_masks_of(pieces);
-    units::note_masks(units, &given[..pieces.len()], &mut noted);
+    let given = units::fixed_masks_of(layer.pieces);
+    units::note_masks(units, &given[..layer.pieces.len()], &mut noted);
     let graph = UnitGraph {
         edges: &edges,
         units,
     };
-    let searched = decompose_units(settings, &graph, &noted, &all, masks);
+    let searched = decompose_units(layer.settings, &graph, &noted, &all, masks);
     spread_masks(units, masks);
-    let score = counting::score_edges(settings.weight, &edges, masks);
+    let score = counting::score_edges(layer.settings.weight, &edges, masks);
     Decomposition {
-        conflicts: score.conflicts,
-        stitches: score.stitches,
-        cost: score.cost,
+        score,
         steps: searched.steps,
         verdict: searched.verdict,
     }
