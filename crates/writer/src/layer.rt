@@ -4,11 +4,11 @@ ghost use Rattle.rules.specs.Answers.{answer_of, length_of};
 ghost use Rattle.rules.specs.Calls.{write_layer, buffer_after};
 ghost use Rattle.rules.specs.Lines.{number_lines};
 ghost use Rattle.rules.specs.LayerText.{header_keys, header_numbers, piece_lines, fixed_line, fixed_lines, layer_text};
-ghost use Rattle.rules.specs.Questions.{done, Valid};
+ghost use Rattle.rules.specs.Questions.{done};
 ghost use Rattle.line_writer.specs.Writing.{HasRoom, Wrote};
 
 use line_writer::Writer;
-use rules::{Piece, Place, Refusal, Refused, Settings, stated_mask};
+use rules::{Piece, Place, Refusal, Refused, Settings, ValidLayer, stated_mask};
 
 // The six lines before the pieces.
 fn write_header(out: &mut Writer, settings: Settings, count: u32)
@@ -56,22 +56,22 @@ fn write_fixed(out: &mut Writer, pieces: &[Piece])
     }
 }
 
-// Writes the text of a valid layer at the front of a buffer that has room for it, and answers its length.
-fn write_text(settings: Settings, pieces: &[Piece], buffer: &mut [u8]) -> usize
-    requires valid { Valid settings pieces.now }
-    requires room { 32_768 ≤ length buffer.old }
-    ensures length { result ≡ length (layer_text settings pieces.now) }
-    ensures written { buffer.new ≡ buffer_after (done (layer_text settings pieces.now)) buffer.old }
+// Writes the text of a layer at the front of a buffer that has room for it, and answers its length.
+#[tactic(auto, using(rules::proofs::Validity::layer_facts))]
+fn write_text(layer: &ValidLayer, buffer: &mut [u8]) -> usize
+    requires { 32_768 ≤ length buffer.old }
+    ensures length { result ≡ length (layer_text layer.now.settings layer.now.pieces.now) }
+    ensures written { buffer.new ≡ buffer_after (done (layer_text layer.now.settings layer.now.pieces.now)) buffer.old }
 {
     let mut out = Writer::new(buffer);
-    write_header(&mut out, settings, pieces.len() as u32);
-    write_pieces(&mut out, pieces);
-    write_fixed(&mut out, pieces);
+    write_header(&mut out, layer.settings, layer.pieces.len() as u32);
+    write_pieces(&mut out, layer.pieces);
+    write_fixed(&mut out, layer.pieces);
     out.len()
 }
 
-#[tactic(auto, unfolding(rules::specs::Calls::write_layer))]
 // Writes the text of any layer, or gives the first of the refusals 1, 4 to 6, 13 and 14 and leaves the buffer as it was.
+#[tactic(auto, unfolding(rules::specs::Calls::write_layer))]
 pub fn write_layer(
     settings: Settings,
     pieces: &[Piece],
@@ -83,6 +83,6 @@ pub fn write_layer(
     if buffer.len() < 32_768 {
         return Err(Refusal::Buffer.at(Place::Nothing));
     }
-    fixed_masks::judge(settings, pieces)?;
-    Ok(write_text(settings, pieces, buffer))
+    let layer = fixed_masks::judge(settings, pieces)?;
+    Ok(write_text(&layer, buffer))
 }

@@ -5,7 +5,7 @@ use Rattle.edge_call.proofs.edge.Goals as goal
 
 pub judged_edge-requires : goal.judged_edge-requires
 judged_edge-requires c =
-    let sound = valid_sound c.args.settings (c.args.a ∷ c.args.b ∷ []) (sym c.in_ok-judge.ensures) in
+    let sound = valid_sound c.args.settings (c.args.a ∷ c.args.b ∷ []) (sym c.in_ok-judge.ensures.answer) in
     record {
       settings_value = sound.settings;
       a_value = sound.ranges 0 (omega arith);

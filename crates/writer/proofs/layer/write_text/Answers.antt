@@ -1,33 +1,24 @@
 -- `write_text`: the six lines, the pieces, then the lines that fix masks. Assumes nothing.
-use native.Mathlib.Omega.{arith}
 use mathlib.Core.Path.{sym, ◌∙◌}
 use Prim.Native.Nat.{◌≤◌}
 use lib.ListN.{length}
 use Rattle.std.proofs.Common.{rules}
 use Rattle.rules.specs.LayerText.{layer_text}
-use Rattle.rules.proofs.Ranges.{within_facts}
-use Rattle.rules.proofs.Validity.{valid_sound}
 use Rattle.line_writer.specs.Writing.{HasRoom, Wrote}
 use Rattle.line_writer.proofs.Puts.{wrote_on, room_front, room_left, front_room, front_wrote}
 use Rattle.text_theory.proofs.LayerSizes.{layer_room}
 use Rattle.writer.proofs.layer.write_text.Goals as goal
 use Rattle.writer.proofs.layer.write_text.Goals.{Start, After-new-out, After-write_fixed}
 
-few : (c : Start) → length c.args.pieces.now ≤ 512
-few c = (within_facts 0 512 _ (valid_sound _ _ c.requires.valid).count).high
+fits : (c : Start) → length (layer_text c.args.layer.now.settings c.args.layer.now.pieces.now) ≤ length c.args.buffer.now
+fits c = layer_room _ _ c.args.layer.now.valid c.requires
 
-fits : (c : Start) → length (layer_text c.args.settings c.args.pieces.now) ≤ length c.args.buffer.now
-fits c = layer_room _ _ c.requires.valid c.requires.room
+room : (c : After-new-out) → HasRoom c.new-out.result (layer_text c.args.layer.now.settings c.args.layer.now.pieces.now)
+room c = front_room c.new-out.result _ c.new-out.ensures.at c.new-out.ensures.buffer (layer_room _ _ c.args.layer.now.valid c.requires)
 
-room : (c : After-new-out) → HasRoom c.new-out.result (layer_text c.args.settings c.args.pieces.now)
-room c = front_room c.new-out.result _ c.new-out.ensures.at c.new-out.ensures.buffer (layer_room _ _ c.requires.valid c.requires.room)
-
-whole : (c : After-write_fixed) → Wrote c.new-out.result (layer_text c.args.settings c.args.pieces.now) c.write_fixed.new.out
+whole : (c : After-write_fixed) → Wrote c.new-out.result (layer_text c.args.layer.now.settings c.args.layer.now.pieces.now) c.write_fixed.new.out
 unfolding layer_text
 whole c = wrote_on (wrote_on c.write_header.ensures c.write_pieces.ensures) c.write_fixed.ensures
-
-pub overflow_cast-pieces : goal.overflow_cast-pieces
-overflow_cast-pieces c = omega (arith, few (goal.at.overflow_cast-pieces c).Start)
 
 pub write_header-requires : goal.write_header-requires
 unfolding layer_text
@@ -38,9 +29,6 @@ write_header-requires c =
 pub write_pieces-requires : goal.write_pieces-requires
 unfolding layer_text
 write_pieces-requires c = room_left _ c.write_header.ensures (room_front c.new-out.result _ _ (room (goal.at.write_pieces-requires c).After-new-out))
-
-pub write_fixed-requires-clause-few : goal.write_fixed-requires-clause-few
-write_fixed-requires-clause-few c = few (goal.at.write_fixed-requires-clause-few c).Start
 
 pub write_fixed-requires-clause-room : goal.write_fixed-requires-clause-room
 unfolding layer_text
