@@ -1,5 +1,5 @@
 -- A piece that does not come into the reach of another one is at least the spacing away from it in X or in Y, and so has no edge with it. Assumes nothing.
-use mathlib.Core.Bool.{false}
+use mathlib.Core.Bool.{true, false}
 use mathlib.Core.Logic.{⊎_elim}
 use mathlib.Core.Path.{◌≡◌}
 use Prim.Native.Nat.{ℕ, ◌+◌, ◌-◌, ◌<◌, min}
@@ -7,6 +7,7 @@ use native.Mathlib.Omega.{arith}
 use borrow.Author.Tests.{lt-ltb}
 use Rattle.rules.specs.declared.layer.Piece.{Piece}
 use Rattle.rules.specs.declared.layer.Edge.{Edge}
+use Rattle.rules.specs.Settings.{settings_in_range}
 use Rattle.rules.specs.Edges.{gap_x, gap_y, edge_of}
 use Rattle.rules.proofs.Edges.{far_in_x, far_in_y}
 use Rattle.rules.proofs.Ranges.{piece_facts}
@@ -26,13 +27,13 @@ module _ (r : Reach) (q : Piece) where
   unfolding gap_y
   near_in_y near = let y = (piece_facts r.piece r.piece_value).y1.high in above_both (omega arith) (omega arith)
 
-  pub out_of_reach : in_reach r q ≡ false → edge_of r.settings q r.piece ≡ Edge.None
-  out_of_reach e =
+  pub out_of_reach : settings_in_range r.settings ≡ true → in_reach r q ≡ false → edge_of r.settings q r.piece ≡ Edge.None
+  out_of_reach range e =
       ⊎_elim
       (λ x.
       ⊎_elim
       (λ y. clash (lt-ltb 1_000_000 _ (above_both (near_in_x x) (near_in_y y))) e)
-      (far_in_y r.settings q r.piece r.settings_value)
+      (far_in_y r.settings q r.piece range)
       (lt_or_ge (gap_y q r.piece) r.settings.spacing))
-      (far_in_x r.settings q r.piece r.settings_value)
+      (far_in_x r.settings q r.piece range)
       (lt_or_ge (gap_x q r.piece) r.settings.spacing)

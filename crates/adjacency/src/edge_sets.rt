@@ -45,14 +45,14 @@ fn join_by(edge: Edge, i: usize, j: usize, edges: &mut EdgeSets, ties: &mut Matr
 }
 
 // Adds the edges and ties between piece j and the pieces before it.
-#[tactic(auto, using(rules::proofs::Validity::layer_facts))]
+#[tactic(auto, using(rules::proofs::Validity::layer_facts, rules::proofs::Ranges::settings_facts))]
 fn adjacency_row(layer: &ValidLayer, j: usize, edges: &mut EdgeSets, ties: &mut Matrix)
     requires { j < length layer.now.pieces.now }
     ensures conflicts { RowTo (conflict_of layer.now.settings layer.now.pieces.now) j j edges.old.conflicts edges.new.conflicts }
     ensures stitches { RowTo (stitch_of layer.now.settings layer.now.pieces.now) j j edges.old.stitches edges.new.stitches }
     ensures ties { RowTo (tie_of layer.now.settings layer.now.pieces.now) j j ties.old ties.new }
 {
-    let reach = Reach::of(layer, j);
+    let reach = Reach::of(layer.settings, layer.pieces[j]);
     for (i, earlier) in layer.pieces[..j].iter().enumerate() {
         join_by(reach.edge_from(*earlier), i, j, edges, ties);
     }

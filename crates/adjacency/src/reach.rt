@@ -1,10 +1,10 @@
 // The edges between one piece and many. Most pairs are too far apart for an edge, and one comparison tells them: it adds to and subtracts from numbers that are
 // made once for the piece.
-ghost use Rattle.std.specs.Prelude.{true, ◌≡◌, ◌+◌, ◌-◌, ◌<◌, length};
-ghost use Rattle.rules.specs.Settings.{settings_in_range, piece_in_range, piece_at};
+ghost use Rattle.std.specs.Prelude.{true, ◌≡◌, ◌+◌, ◌-◌, ◌≤◌};
+ghost use Rattle.rules.specs.Settings.{settings_in_range, piece_in_range};
 
 use edges::judged_edge;
-use rules::{Edge, Piece, Settings, ValidLayer};
+use rules::{Edge, Piece, Settings};
 
 // A piece, and where its reach ends, the spacing away from it: in X the left end, negated, and the right end, in Y the lower end, negated, and the upper end. To each
 // 1,000,000 is added, so that none is negative.
@@ -16,7 +16,7 @@ pub struct Reach {
     right: u32,
     below: u32,
     above: u32,
-    ghost settings_value: { settings_in_range settings ≡ true },
+    ghost spacing_bound: { settings.spacing ≤ 100000 },
     ghost piece_value: { piece_in_range piece ≡ true },
     ghost left_value: { left ≡ 1000000 + settings.spacing - piece.x1 },
     ghost right_value: { right ≡ 1000000 + settings.spacing + piece.x2 },
@@ -28,17 +28,17 @@ impl Reach {
     ghost use Rattle.rules.specs.Edges.{edge_of};
     ghost use Rattle.adjacency.specs.Reaches.{in_reach};
 
-    // The reach of piece j of a layer.
-    #[tactic(auto, using(rules::proofs::Validity::layer_facts, rules::proofs::Ranges::piece_facts))]
-    pub fn of(layer: &ValidLayer, j: usize) -> Reach
-        requires { j < length layer.now.pieces.now }
-        ensures settings { result.settings ≡ layer.now.settings }
-        ensures piece { result.piece ≡ piece_at layer.now.pieces.now j }
+    // The reach of a piece.
+    #[tactic(auto, using(rules::proofs::Ranges::piece_facts))]
+    pub fn of(settings: Settings, piece: Piece) -> Reach
+        requires spacing_bound { settings.spacing ≤ 100000 }
+        requires piece_value { piece_in_range piece ≡ true }
+        ensures settings { result.settings ≡ settings }
+        ensures piece { result.piece ≡ piece }
     {
-        let base = 1_000_000 + layer.settings.spacing;
-        let piece = layer.pieces[j];
+        let base = 1_000_000 + settings.spacing;
         Reach {
-            settings: layer.settings,
+            settings,
             piece,
             left: base - piece.x1,
             right: base + piece.x2,
@@ -48,7 +48,7 @@ impl Reach {
     }
 
     // Whether another piece comes into it on all sides.
-    #[tactic(auto, using(rules::proofs::Ranges::settings_facts, rules::proofs::Ranges::piece_facts))]
+    #[tactic(auto, using(rules::proofs::Ranges::piece_facts))]
     fn has(&self, other: Piece) -> bool
         requires { piece_in_range other ≡ true }
         ensures { result ≡ in_reach self.now other }
@@ -61,7 +61,8 @@ impl Reach {
     // The edge between another piece that is judged and this one.
     #[tactic(auto, using(crate::proofs::ReachLaws::out_of_reach))]
     pub fn edge_from(&self, other: Piece) -> Edge
-        requires { piece_in_range other ≡ true }
+        requires settings_value { settings_in_range self.now.settings ≡ true }
+        requires other_value { piece_in_range other ≡ true }
         ensures { result ≡ edge_of self.now.settings other self.now.piece }
     {
         if self.has(other) {

@@ -17,7 +17,7 @@ use rules::{Edge, ValidLayer};
 pub use tally::Tally;
 
 // Tests piece j with each piece before it. Those that are tied are joined.
-#[tactic(auto, using(rules::proofs::Validity::layer_facts))]
+#[tactic(auto, using(rules::proofs::Validity::layer_facts, rules::proofs::Ranges::settings_facts))]
 fn test_row(layer: &ValidLayer, masks: &[u8], j: usize, ties: &mut Matrix) -> Tally
     requires j_bound { j < length layer.now.pieces.now }
     requires masks_len { length masks.now ≡ length layer.now.pieces.now }
@@ -26,12 +26,12 @@ fn test_row(layer: &ValidLayer, masks: &[u8], j: usize, ties: &mut Matrix) -> Ta
     ensures stitches_value { result.stitches ≡ sum_to (λ u. stitch_at layer.now.settings layer.now.pieces.now masks.now u j) j }
     ensures row_to { RowTo (tie_of layer.now.settings layer.now.pieces.now) j j ties.old ties.new }
 {
-    let reach = Reach::of(layer, j);
-    let mut tally = Tally::none();
+    let reach = Reach::of(layer.settings, layer.pieces[j]);
+    let mut tally = Tally::default();
     for (i, earlier) in layer.pieces[..j].iter().enumerate() {
         let edge = reach.edge_from(*earlier);
         tally.add(edge, masks[i], masks[j]);
-        if let Edge::Tie = edge {
+        if edge == Edge::Tie {
             ties.join(i, j);
         }
     }
@@ -47,12 +47,9 @@ pub fn test_pairs(layer: &ValidLayer, masks: &[u8], ties: &mut Matrix) -> Tally
     ensures ties { Ties layer.now.settings layer.now.pieces.now (length layer.now.pieces.now) ties.new }
 {
     ties.clear();
-    let mut tally = Tally::none();
+    let mut tally = Tally::default();
     for j in 0..layer.pieces.len() {
-        let row = test_row(layer, masks, j, ties);
-        tally.tested += row.tested;
-        tally.conflicts += row.conflicts;
-        tally.stitches += row.stitches;
+        tally += test_row(layer, masks, j, ties);
     }
     tally
 }

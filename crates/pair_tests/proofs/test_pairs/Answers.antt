@@ -9,49 +9,48 @@ use Rattle.rules.proofs.Validity.{layer_facts}
 use Rattle.adjacency.proofs.AdjacencyLaws.{rows_none, rows_more, rows_ties}
 use Rattle.pair_tests.proofs.PairLaws.{conflict_le, stitch_le, pairs_conflicts, pairs_stitches}
 use Rattle.pair_tests.proofs.test_pairs.Goals as goal
-use Rattle.pair_tests.proofs.test_pairs.Goals.{After-test_row-row, After-loop-j}
+use Rattle.pair_tests.proofs.test_pairs.Goals.{After-test_row, After-loop-j}
 
 pub loop-j-init : goal.loop-j-init
 unfolding sum_pairs sum_to
-loop-j-init c = rw c.none-tally.ensures (record { tested = refl; conflicts = refl; stitches = refl; ties = rows_none _ c.clear.ensures })
+loop-j-init c =
+    let (tested, (conflicts, stitches)) = c.default-tally.ensures in
+    rw (tested, conflicts, stitches) (record { tested = refl; conflicts = refl; stitches = refl; ties = rows_none _ c.clear.ensures })
 
 -- the numbers after this turn, which are at most 1 for each pair
-module _ (c : After-test_row-row) where
+module _ (c : After-test_row) where
   inside : c.loop-j.j < 512
   inside = omega (arith, (layer_facts _ _ c.args.layer.now.valid).few)
 
-  tested : (c.loop-j.tally.tested + c.test_row-row.result.tested ≡ sum_pairs (λ u v. 1) (c.loop-j.j + 1))
-      × (c.loop-j.tally.tested + c.test_row-row.result.tested ≤ 130_816)
-  tested = pairs_more (λ u v. 1) _ (λ u v. omega arith) inside c.loop-j.invariant.tested c.test_row-row.ensures.tested_value
+  tested : (c.loop-j.tally.tested + c.test_row.result.tested ≡ sum_pairs (λ u v. 1) (c.loop-j.j + 1))
+      × (c.loop-j.tally.tested + c.test_row.result.tested ≤ 130_816)
+  tested = pairs_more (λ u v. 1) _ (λ u v. omega arith) inside c.loop-j.invariant.tested c.test_row.ensures.tested_value
 
   conflicts : let a = c.args in
-      (c.loop-j.tally.conflicts + c.test_row-row.result.conflicts ≡ sum_pairs (conflict_at a.layer.now.settings a.layer.now.pieces.now a.masks.now) (c.loop-j.j + 1))
-      × (c.loop-j.tally.conflicts + c.test_row-row.result.conflicts ≤ 130_816)
-  conflicts = pairs_more _ _ (conflict_le c.args.layer.now.settings c.args.layer.now.pieces.now c.args.masks.now) inside c.loop-j.invariant.conflicts c.test_row-row.ensures.conflicts_value
+      (c.loop-j.tally.conflicts + c.test_row.result.conflicts ≡ sum_pairs (conflict_at a.layer.now.settings a.layer.now.pieces.now a.masks.now) (c.loop-j.j + 1))
+      × (c.loop-j.tally.conflicts + c.test_row.result.conflicts ≤ 130_816)
+  conflicts = pairs_more _ _ (conflict_le c.args.layer.now.settings c.args.layer.now.pieces.now c.args.masks.now) inside c.loop-j.invariant.conflicts c.test_row.ensures.conflicts_value
 
   stitches : let a = c.args in
-      (c.loop-j.tally.stitches + c.test_row-row.result.stitches ≡ sum_pairs (stitch_at a.layer.now.settings a.layer.now.pieces.now a.masks.now) (c.loop-j.j + 1))
-      × (c.loop-j.tally.stitches + c.test_row-row.result.stitches ≤ 130_816)
-  stitches = pairs_more _ _ (stitch_le c.args.layer.now.settings c.args.layer.now.pieces.now c.args.masks.now) inside c.loop-j.invariant.stitches c.test_row-row.ensures.stitches_value
+      (c.loop-j.tally.stitches + c.test_row.result.stitches ≡ sum_pairs (stitch_at a.layer.now.settings a.layer.now.pieces.now a.masks.now) (c.loop-j.j + 1))
+      × (c.loop-j.tally.stitches + c.test_row.result.stitches ≤ 130_816)
+  stitches = pairs_more _ _ (stitch_le c.args.layer.now.settings c.args.layer.now.pieces.now c.args.masks.now) inside c.loop-j.invariant.stitches c.test_row.ensures.stitches_value
 
-pub overflow_add-tally : goal.overflow_add-tally
-overflow_add-tally c = omega (arith, tested (goal.at.overflow_add-tally c).After-test_row-row)
-
-pub overflow_add-tally-in-loop-j : goal.overflow_add-tally-in-loop-j
-overflow_add-tally-in-loop-j c = omega (arith, conflicts (goal.at.overflow_add-tally-in-loop-j c).After-test_row-row)
-
-pub overflow_add-tally-in-loop-j-2 : goal.overflow_add-tally-in-loop-j-2
-overflow_add-tally-in-loop-j-2 c = omega (arith, stitches (goal.at.overflow_add-tally-in-loop-j-2 c).After-test_row-row)
+pub add_assign-requires : goal.add_assign-requires
+add_assign-requires c =
+    let at = (goal.at.add_assign-requires c).After-test_row in
+    (omega (arith, tested at), omega (arith, conflicts at), omega (arith, stitches at))
 
 pub loop-j-preserved : goal.loop-j-preserved
 loop-j-preserved c =
-    let at = (goal.at.loop-j-preserved c).After-test_row-row in
-    record {
+    let at = (goal.at.loop-j-preserved c).After-test_row in
+    rw c.add_assign.ensures.after
+    (record {
       tested = (tested at).0;
       conflicts = (conflicts at).0;
       stitches = (stitches at).0;
-      ties = rows_more _ c.loop-j.j c.loop-j.invariant.ties c.test_row-row.ensures.row_to;
-    }
+      ties = rows_more _ c.loop-j.j c.loop-j.invariant.ties c.test_row.ensures.row_to;
+    })
 
 pub returns : goal.returns
 returns c =

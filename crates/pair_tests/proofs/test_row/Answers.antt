@@ -1,8 +1,9 @@
-use mathlib.Core.Bool.{false}
-use mathlib.Core.Path.{◌≡◌, refl, sym, ap, ◌∙◌}
+use mathlib.Core.Path.{◌≡◌, refl, sym, ◌∙◌}
 use Prim.Native.Nat.{◌<◌}
 use native.Mathlib.Omega.{arith}
 use lib.Seq.{get_or-take, length-take-le}
+use denote.Enum.Bare.{sameb}
+use Rattle.rules.specs.contracts.layer.Edge.{the_type}
 use Rattle.rules.specs.declared.layer.Edge.{Edge}
 use Rattle.rules.specs.Basics.{sum_to}
 use Rattle.rules.specs.Edges.{edge_of}
@@ -17,11 +18,13 @@ use Rattle.adjacency.proofs.AdjacencyLaws.{row_none, row_joined, row_kept}
 use Rattle.pair_tests.specs.PairTests.{conflict_at, stitch_at}
 use Rattle.pair_tests.proofs.PairLaws.{conflict_le, stitch_le}
 use Rattle.pair_tests.proofs.test_row.Goals as goal
-use Rattle.pair_tests.proofs.test_row.Goals.{After-edge_from-edge, in-Tie, in_default}
+use Rattle.pair_tests.proofs.test_row.Goals.{After-edge_from-edge, then-eq, else-eq}
 
 pub loop-i-init : goal.loop-i-init
 unfolding sum_to
-loop-i-init c = rw c.none-tally.ensures (record { tested = refl; conflicts = refl; stitches = refl; ties = row_none _ (λ a b. tie_sym _ _ _) _ _ })
+loop-i-init c =
+    let (tested, (conflicts, stitches)) = c.default-tally.ensures in
+    rw (tested, conflicts, stitches) (record { tested = refl; conflicts = refl; stitches = refl; ties = row_none _ (λ a b. tie_sym _ _ _) _ _ })
 
 module _ (c : After-edge_from-edge) where
   below : c.loop-i.i < c.args.j
@@ -35,8 +38,8 @@ module _ (c : After-edge_from-edge) where
   tied : tie_of c.args.layer.now.settings c.args.layer.now.pieces.now c.loop-i.i c.args.j ≡ is_tie c.edge_from-edge.result
   tied = rw edge (sym (tie_kind c.args.layer.now.settings _ _))
 
-pub edge_from-edge-requires : goal.edge_from-edge-requires
-edge_from-edge-requires c =
+pub edge_from-edge-requires-clause-other_value : goal.edge_from-edge-requires-clause-other_value
+edge_from-edge-requires-clause-other_value c =
     let ps = c.args.layer.now.pieces.now in
     let low : c.loop-i.i < c.args.j = omega (arith, length-take-le c.args.j ps (omega arith)) in
     rw (get_or-take c.args.j ps c.loop-i.i no_piece low) ((layer_facts _ ps c.args.layer.now.valid).pieces c.loop-i.i (omega arith))
@@ -44,11 +47,12 @@ edge_from-edge-requires c =
 pub join-requires-clause-i_bound : goal.join-requires-clause-i_bound
 join-requires-clause-i_bound c = omega (arith, below (goal.at.join-requires-clause-i_bound c).After-edge_from-edge, (layer_facts _ _ c.args.layer.now.valid).few)
 
-other : (e : Edge) → (e ≡ Edge.Tie → ⊥) → is_tie e ≡ false
-other Edge.Conflict n = refl
-other Edge.Stitch n = refl
-other Edge.Tie n = absurd (n refl)
-other Edge.None n = refl
+-- the test for a tie
+same : (e : Edge) → sameb the_type e Edge.Tie ≡ is_tie e
+same Edge.Conflict = refl
+same Edge.Stitch = refl
+same Edge.Tie = refl
+same Edge.None = refl
 
 pub add-requires : goal.add-requires
 add-requires c =
@@ -81,9 +85,9 @@ loop-i-preserved c =
       tested = (sum_more (λ u. 1) i (λ u. omega arith) row.tested refl).0;
       conflicts = (sum_more (λ u. conflict_at s ps masks u a.j) i (λ u. conflict_le s ps masks u a.j) row.conflicts refl).0;
       stitches = (sum_more (λ u. stitch_at s ps masks u a.j) i (λ u. stitch_le s ps masks u a.j) row.stitches refl).0;
-      ties = elim c.match-edge.branch [
-        | in-Tie w ↦ rw w.ties-is (row_joined _ (λ x y. tie_sym s _ _) (omega (arith, below at)) (tied at ∙ ap is_tie w.in-Tie.is) row.ties w.join.ensures)
-        | in_default w ↦ rw w.ties-is (row_kept _ (λ x y. tie_sym s _ _) (omega (arith, below at)) (tied at ∙ other (c.edge_from-edge.result) w.in_default.not-Tie) row.ties)
+      ties = elim c.if-eq.branch [
+        | then-eq w ↦ rw w.ties-is (row_joined _ (λ x y. tie_sym s _ _) (omega (arith, below at)) (tied at ∙ sym (same _) ∙ sym c.eq.ensures ∙ w.if-eq.true) row.ties w.join.ensures)
+        | else-eq w ↦ rw w.ties-is (row_kept _ (λ x y. tie_sym s _ _) (omega (arith, below at)) (tied at ∙ sym (same _) ∙ sym c.eq.ensures ∙ w.if-eq.false) row.ties)
       ];
     })
 

@@ -8,8 +8,8 @@ use Rattle.adjacency.proofs.AdjacencyLaws.{row_more}
 use Rattle.adjacency.proofs.KindLaws.{conflict_kind, stitch_kind, tie_kind}
 use Rattle.adjacency.proofs.edge_sets.adjacency_row.Goals as goal
 
-pub edge_from-requires : goal.edge_from-requires
-edge_from-requires c =
+pub edge_from-requires-clause-other_value : goal.edge_from-requires-clause-other_value
+edge_from-requires-clause-other_value c =
     let ps = c.args.layer.now.pieces.now in
     let i = c.loop-i.i in
     let low : i < c.args.j = omega (arith, length-take-le c.args.j ps (omega arith)) in
