@@ -6,7 +6,8 @@ use bitset::Matrix;
 use edges::tie;
 use rules::{Piece, Settings};
 
-// Adds the ties between piece j and each piece up to it.
+// Adds the ties between piece j and each piece up to it. That there are at most 512 pieces stands here, and wherever pieces are met before they are judged, as a
+// bound of their number: a type for no more than that, beside `ValidLayer`, would be made anew for each question.
 fn tie_row(settings: Settings, pieces: &[Piece], j: usize, ties: &mut Matrix)
     requires j_bound { j < length pieces.now }
     requires few { length pieces.now ≤ 512 }

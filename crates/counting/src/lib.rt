@@ -54,7 +54,8 @@ fn count_edges(edge: Edge, words: &Matrix, masks: &[u8], j: usize) -> u32
     count
 }
 
-// What conflicts and stitches cost. There is at most one of each for each pair.
+// What conflicts and stitches cost. There is at most one of each for each pair. The weight is a number with a bound, as masks are elsewhere: a type for either would
+// be made from the settings at each call.
 #[tactic(auto, using(rules::proofs::ScoreBounds::cost_small))]
 pub fn cost_of(weight: u32, conflicts: u32, stitches: u32) -> u32
     requires weight_bound { weight ≤ 1000 }

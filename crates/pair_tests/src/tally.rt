@@ -15,7 +15,8 @@ pub struct Tally {
 }
 
 impl Tally {
-    // Counts a test that found this edge between ends with these masks. Most pairs have none, and the masks are not compared then.
+    // Counts a test that found this edge between ends with these masks. Most pairs have none, and the masks are not compared then. `counting::counts` tells whether an
+    // edge counts; here its kind is looked at anyway, since it says which number rises.
     pub fn add(&mut self, edge: Edge, a: u8, b: u8)
         requires tested_bound { self.old.tested ≤ 511 }
         requires conflicts_bound { self.old.conflicts ≤ 511 }
