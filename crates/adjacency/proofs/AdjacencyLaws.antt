@@ -1,18 +1,19 @@
--- Adjacency words: how they grow, one pair and one row at a time, and what those of a graph without loops say: they are symmetric, with
--- nothing on the diagonal and nothing past the last piece. Each law is over the test that says whether two numbers are joined.
+-- Adjacency words: how they grow, one pair and one row at a time, and what those of a graph without loops say: they are symmetric, they
+-- have the graph's edges, and none is in the words of both kinds. Each law is over the test that says whether two numbers are joined.
 -- Assumes nothing.
 use mathlib.Core.Bool.{Bool, true, false, ◌&&◌, ◌||◌, and-true, and-false, and_comm, and-or_distrib_left, and-or_distrib_right, or_assoc, or-false}
 use mathlib.Core.List.{List}
 use mathlib.Core.Logic.{⊎_elim}
 use mathlib.Core.Path.{◌≡◌, refl, sym, ap, ◌∙◌}
-use Prim.Native.Nat.{ℕ, ◌+◌, ◌*◌, ◌/◌, ◌%◌, ◌≤◌, ◌<◌, min, max}
+use Prim.Native.Nat.{ℕ, ◌+◌, ◌≤◌, ◌<◌, min, max}
 use native.Mathlib.Decide.{dec_lt, dec_le, ℕ_discrete}
 use native.Mathlib.Omega.{arith}
 use lib.Dec.{eqb, ltb}
-use lib.ListN.{replicate, length}
+use lib.ListN.{length}
 use borrow.Author.Tests.{eq-eqb, ne_eqb, eqb-true, lt-ltb, le-ltb}
-use Rattle.bitset.specs.Bits.{member, has_edge}
-use Rattle.bitset.proofs.Sets.{member_none}
+use Rattle.bitset.specs.Bits.{has_edge, no_edge}
+use Rattle.bitset.specs.declared.matrix.Matrix.{Matrix}
+use Rattle.bitset.proofs.Sets.{no_edge_has}
 use Rattle.rules.specs.declared.layer.Settings.{Settings}
 use Rattle.rules.specs.declared.layer.Piece.{Piece}
 use Rattle.rules.specs.Basics.{given}
@@ -62,39 +63,39 @@ module _ (edge : ℕ → ℕ → Bool) (symmetric : (a b : ℕ) → edge a b ≡
       (λ h. rw (eqb-true a j (and_left (eqb a j) (eqb b i) h), eqb-true b i (and_right (eqb a j) (eqb b i) h)) (symmetric i j))
       (or_either (eqb a i && eqb b j) (eqb a j && eqb b i) e)
 
-  pub row_none : (j : ℕ) (words : List ℕ) → RowTo edge 0 j words words
-  row_none j words = record { bits = λ a b h. rw (le-ltb (min a b) 0 (omega arith), and-false (edge a b)) (sym (or-false (has_edge words a b))) }
+  pub row_none : (j : ℕ) (words : Matrix) → RowTo edge 0 j words words
+  row_none j words = record { bits = λ a b. rw (le-ltb (min a b) 0 (omega arith), and-false (edge a b)) (sym (or-false (has_edge words a b))) }
 
   -- i and j are joined where they were found to have an edge
-  pub row_more : (i j : ℕ) (found : Bool) {before words after : List ℕ} → i ≤ j → found ≡ edge i j → RowTo edge i j before words
-      → ((a b : ℕ) → b < 512 → has_edge after a b ≡ (has_edge words a b || (found && is_pair i j a b)))
+  pub row_more : (i j : ℕ) (found : Bool) {before words after : Matrix} → i ≤ j → found ≡ edge i j → RowTo edge i j before words
+      → ((a b : ℕ) → has_edge after a b ≡ (has_edge words a b || (found && is_pair i j a b)))
       → RowTo edge (i + 1) j before after
   row_more i j found {before} {words} {after} l e row more = record {
-    bits = λ a b h.
-        more a b h
-        ∙ rw (e, row.bits a b h, pair_edge i j a b, row_next i j a b l)
+    bits = λ a b.
+        more a b
+        ∙ rw (e, row.bits a b, pair_edge i j a b, row_next i j a b l)
         (or_assoc (has_edge before a b) (edge a b && in_row i j a b) (edge a b && is_pair i j a b)
         ∙ ap (λ (x : Bool). has_edge before a b || x) (sym (and-or_distrib_left (edge a b) (in_row i j a b) (is_pair i j a b))));
   }
 
   -- which the two are, or are not
-  pub row_joined : {i j : ℕ} {before words after : List ℕ} → i ≤ j → edge i j ≡ true → RowTo edge i j before words
-      → ((a b : ℕ) → b < 512 → has_edge after a b ≡ (has_edge words a b || (eqb a i && eqb b j) || (eqb a j && eqb b i)))
+  pub row_joined : {i j : ℕ} {before words after : Matrix} → i ≤ j → edge i j ≡ true → RowTo edge i j before words
+      → ((a b : ℕ) → has_edge after a b ≡ (has_edge words a b || (eqb a i && eqb b j) || (eqb a j && eqb b i)))
       → RowTo edge (i + 1) j before after
   row_joined {i} {j} {words = words} l e row join =
-      row_more i j true l (sym e) row (λ a b h. join a b h ∙ or_assoc (has_edge words a b) (eqb a i && eqb b j) (eqb a j && eqb b i))
+      row_more i j true l (sym e) row (λ a b. join a b ∙ or_assoc (has_edge words a b) (eqb a i && eqb b j) (eqb a j && eqb b i))
 
-  pub row_kept : {i j : ℕ} {before words : List ℕ} → i ≤ j → edge i j ≡ false → RowTo edge i j before words → RowTo edge (i + 1) j before words
-  row_kept {i} {j} {words = words} l e row = row_more i j false l (sym e) row (λ a b h. sym (or-false (has_edge words a b)))
+  pub row_kept : {i j : ℕ} {before words : Matrix} → i ≤ j → edge i j ≡ false → RowTo edge i j before words → RowTo edge (i + 1) j before words
+  row_kept {i} {j} {words = words} l e row = row_more i j false l (sym e) row (λ a b. sym (or-false (has_edge words a b)))
 
 -- ---- rows
 
 -- the words after the rows below n
-pub record Rows (edge : ℕ → ℕ → Bool) (n : ℕ) (words : List ℕ) : Type 0 where
-  pub bits : (a b : ℕ) → b < 512 → has_edge words a b ≡ (edge a b && (ltb (min a b) (max a b) && ltb (max a b) n))
+pub record Rows (edge : ℕ → ℕ → Bool) (n : ℕ) (words : Matrix) : Type 0 where
+  pub bits : (a b : ℕ) → has_edge words a b ≡ (edge a b && (ltb (min a b) (max a b) && ltb (max a b) n))
 
-pub rows_none : (edge : ℕ → ℕ → Bool) {words : List ℕ} → words ≡ replicate 4096 0 → Rows edge 0 words
-rows_none edge e = record { bits = λ a b h. rw (e, le-ltb (max a b) 0 (omega arith), and-false (ltb (min a b) (max a b)), and-false (edge a b)) (member_none 4096 _) }
+pub rows_none : (edge : ℕ → ℕ → Bool) {words : Matrix} → words ≡ no_edge → Rows edge 0 words
+rows_none edge e = record { bits = λ a b. rw (e, le-ltb (max a b) 0 (omega arith), and-false (ltb (min a b) (max a b)), and-false (edge a b)) (no_edge_has a b) }
 
 -- the pairs with greater number n, and those below
 last_row : (m x n : ℕ) → ((ltb m x && ltb x n) || (ltb m n && eqb x n)) ≡ (ltb m x && ltb x (n + 1))
@@ -102,11 +103,11 @@ last_row m x n =
     rw (same_where (ltb m n) (ltb m x) (eqb x n) (λ e. ap (ltb m) (sym (eqb-true x n e))), ltb_next x n)
     (sym (and-or_distrib_left (ltb m x) (ltb x n) (eqb x n)))
 
-pub rows_more : (edge : ℕ → ℕ → Bool) (n : ℕ) {words after : List ℕ} → Rows edge n words → RowTo edge n n words after → Rows edge (n + 1) after
+pub rows_more : (edge : ℕ → ℕ → Bool) (n : ℕ) {words after : Matrix} → Rows edge n words → RowTo edge n n words after → Rows edge (n + 1) after
 rows_more edge n {words} {after} rows row = record {
-  bits = λ a b h.
-      row.bits a b h
-      ∙ rw (rows.bits a b h)
+  bits = λ a b.
+      row.bits a b
+      ∙ rw (rows.bits a b)
       (sym (and-or_distrib_left (edge a b) (ltb (min a b) (max a b) && ltb (max a b) n) (in_row n n a b)) ∙ ap (λ (x : Bool). edge a b && x) (last_row (min a b) (max a b) n));
 }
 
@@ -117,9 +118,9 @@ given_test true = refl
 given_test false = refl
 
 -- rows of a test without loops
-pub rows_hold : (joins : ℕ → ℕ → Bool) (n : ℕ) {words : List ℕ} → ((a : ℕ) → a < n → joins a a ≡ false)
+pub rows_hold : (joins : ℕ → ℕ → Bool) (n : ℕ) {words : Matrix} → ((a : ℕ) → a < n → joins a a ≡ false)
     → Rows joins n words → Holds (λ a b. given (joins a b) 1) n words
-rows_hold joins n {words} loops rows = record { bits = λ a b h. rows.bits a b h ∙ go a b (dec_lt a n) (dec_lt b n) (ℕ_discrete a b) }
+rows_hold joins n {words} loops rows = record { bits = λ a b. rows.bits a b ∙ go a b (dec_lt a n) (dec_lt b n) (ℕ_discrete a b) }
   where
     go : (a b : ℕ) → Dec (a < n) → Dec (b < n) → Dec (a ≡ b)
         → (joins a b && (ltb (min a b) (max a b) && ltb (max a b) n)) ≡ (ltb a n && ltb b n && ltb 0 (given (joins a b) 1))
@@ -133,7 +134,7 @@ rows_hold joins n {words} loops rows = record { bits = λ a b h. rows.bits a b h
 
 -- the rows of a judged layer's pieces: no piece is joined to itself
 module _ (s : Settings) (ps : List Piece) (valid : Valid s ps) where
-  pub rows_adjacency : {conflictWords stitchWords : List ℕ} → Rows (conflict_of s ps) (length ps) conflictWords → Rows (stitch_of s ps) (length ps) stitchWords
+  pub rows_adjacency : {conflictWords stitchWords : Matrix} → Rows (conflict_of s ps) (length ps) conflictWords → Rows (stitch_of s ps) (length ps) stitchWords
       → Adjacency s ps (length ps) conflictWords stitchWords
   rows_adjacency conflicts stitches =
       let f = valid_sound s ps valid in
@@ -142,55 +143,33 @@ module _ (s : Settings) (ps : List Piece) (valid : Valid s ps) where
         stitches = rows_hold _ (length ps) (λ a h. no_self_stitch s (piece_at ps a) f.settings (f.areas a h)) stitches;
       }
 
-  pub rows_ties : {words : List ℕ} → Rows (tie_of s ps) (length ps) words → Ties s ps (length ps) words
+  pub rows_ties : {words : Matrix} → Rows (tie_of s ps) (length ps) words → Ties s ps (length ps) words
   rows_ties rows = rows_hold _ (length ps) (λ a h. no_self_tie s (piece_at ps a) ((valid_sound s ps valid).areas a h)) rows
 
 -- ---- what the words say
 
-module _ (edges : ℕ → ℕ → ℕ) (n : ℕ) (words : List ℕ) (holds : Holds edges n words) where
+module _ (edges : ℕ → ℕ → ℕ) (n : ℕ) (words : Matrix) (holds : Holds edges n words) where
   pub words_symmetric : ((a b : ℕ) → edges a b ≡ edges b a) → (a b : ℕ) → a < 512 → b < 512 → has_edge words a b ≡ has_edge words b a
   words_symmetric symmetric a b h k =
-      holds.bits a b k ∙ rw (symmetric a b, and_comm (ltb a n) (ltb b n)) (sym (holds.bits b a h))
-
-  pub words_diagonal : ((a : ℕ) → a < n → edges a a ≡ 0) → (a : ℕ) → a < 512 → has_edge words a a ≡ false
-  words_diagonal loops a h = holds.bits a a h ∙ go (dec_lt a n)
-    where
-      go : Dec (a < n) → (ltb a n && ltb a n && ltb 0 (edges a a)) ≡ false
-      go (yes l) = rw (loops a l) (and-false (ltb a n && ltb a n))
-      go (no l) = rw (le-ltb a n (omega arith))
-
-  -- nothing at or past n
-  pub words_past : (a b : ℕ) → b < 512 → n ≤ max a b → has_edge words a b ≡ false
-  words_past a b h l = holds.bits a b h ∙ go (dec_lt a n)
-    where
-      go : Dec (a < n) → (ltb a n && ltb b n && ltb 0 (edges a b)) ≡ false
-      go (yes m) = rw (lt-ltb a n m, le-ltb b n (omega arith))
-      go (no m) = rw (le-ltb a n (omega arith))
+      holds.bits a b ∙ rw (symmetric a b, and_comm (ltb a n) (ltb b n)) (sym (holds.bits b a))
 
 -- the words and the graph have the same edges between numbers below n
-pub words_edges : (joins : ℕ → ℕ → Bool) {n : ℕ} {words : List ℕ} → Holds (λ a b. given (joins a b) 1) n words → n ≤ 512
+pub words_edges : (joins : ℕ → ℕ → Bool) {n : ℕ} {words : Matrix} → Holds (λ a b. given (joins a b) 1) n words → n ≤ 512
     → (a b : ℕ) → a < n → b < n → given (has_edge words a b) 1 ≡ given (joins a b) 1
 words_edges joins {n} {words} holds l a b h k =
-    let e : has_edge words a b ≡ joins a b = holds.bits a b (omega arith) ∙ rw (lt-ltb a n h, lt-ltb b n k) (given_test (joins a b)) in
+    let e : has_edge words a b ≡ joins a b = holds.bits a b ∙ rw (lt-ltb a n h, lt-ltb b n k) (given_test (joins a b)) in
     rw e
 
--- Past 511 a row runs into the next one.
-folded : (words : List ℕ) (a b : ℕ) → has_edge words a b ≡ has_edge words (a + b / 512) (b % 512)
-folded words a b = ap (member words) (let e : 512 * a + b ≡ 512 * (a + b / 512) + b % 512 = omega arith in e)
-
 -- where no two numbers have edges of both kinds, no bit is set in the words of both
-pub words_exclusive : {edges others : ℕ → ℕ → ℕ} {n : ℕ} {words otherWords : List ℕ} → Holds edges n words → Holds others n otherWords
+pub words_exclusive : {edges others : ℕ → ℕ → ℕ} {n : ℕ} {words otherWords : Matrix} → Holds edges n words → Holds others n otherWords
     → ((a b : ℕ) → ltb 0 (edges a b) ≡ true → ltb 0 (others a b) ≡ false) → (a b : ℕ) → has_edge words a b ≡ true → has_edge otherWords a b ≡ false
-words_exclusive {edges} {others} {n} {words} {otherWords} holds other exclusive a b e =
-    let r = a + b / 512 in
-    let k = b % 512 in
-    let small : k < 512 = omega arith in
-    let set : (ltb r n && ltb k n && ltb 0 (edges r k)) ≡ true = sym (holds.bits r k small) ∙ sym (folded words a b) ∙ e in
-    folded otherWords a b ∙ other.bits r k small ∙ rw (exclusive r k (and_right (ltb r n && ltb k n) (ltb 0 (edges r k)) set)) (and-false (ltb r n && ltb k n))
+words_exclusive {edges} {others} {n} {words} holds other exclusive a b e =
+    let set : (ltb a n && ltb b n && ltb 0 (edges a b)) ≡ true = sym (holds.bits a b) ∙ e in
+    other.bits a b ∙ rw (exclusive a b (and_right (ltb a n && ltb b n) (ltb 0 (edges a b)) set)) (and-false (ltb a n && ltb b n))
 
 -- ---- the words of a layer
 
-module _ {s : Settings} {ps : List Piece} {n : ℕ} {conflicts stitches : List ℕ} (adjacency : Adjacency s ps n conflicts stitches) where
+module _ {s : Settings} {ps : List Piece} {n : ℕ} {conflicts stitches : Matrix} (adjacency : Adjacency s ps n conflicts stitches) where
   pub conflicts_both_ways : BothWays conflicts
   conflicts_both_ways = words_symmetric (graph_of s ps).conflicts n conflicts adjacency.conflicts (undirected s ps).conflicts
 

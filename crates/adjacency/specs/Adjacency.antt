@@ -2,6 +2,7 @@
 -- Assumes nothing: these are definitions.
 use Rattle.std.specs.Prelude.{Bool, ◌&&◌, ◌||◌, List, ◌≡◌, ℕ, ◌<◌, min, max, eqb, ltb}
 use Rattle.bitset.specs.Bits.{has_edge}
+use Rattle.bitset.specs.declared.matrix.Matrix.{Matrix}
 use Rattle.rules.specs.declared.layer.Settings.{Settings}
 use Rattle.rules.specs.declared.layer.Piece.{Piece}
 use Rattle.rules.specs.Basics.{given}
@@ -28,28 +29,28 @@ abbrev pub in_row : ℕ → ℕ → ℕ → ℕ → Bool
 in_row i j a b = ltb (min a b) i && eqb (max a b) j
 
 -- the words after the edges between j and the numbers below i were added
-pub record RowTo (edge : ℕ → ℕ → Bool) (i j : ℕ) (before after : List ℕ) : Type 0 where
-  pub bits : (a b : ℕ) → b < 512 → has_edge after a b ≡ (has_edge before a b || (edge a b && in_row i j a b))
+pub record RowTo (edge : ℕ → ℕ → Bool) (i j : ℕ) (before after : Matrix) : Type 0 where
+  pub bits : (a b : ℕ) → has_edge after a b ≡ (has_edge before a b || (edge a b && in_row i j a b))
 
 -- The words hold the edges between the numbers below n: bit (a, b) is set exactly where both are below n and joined.
-pub record Holds (edges : ℕ → ℕ → ℕ) (n : ℕ) (words : List ℕ) : Type 0 where
-  pub bits : (a b : ℕ) → b < 512 → has_edge words a b ≡ (ltb a n && ltb b n && ltb 0 (edges a b))
+pub record Holds (edges : ℕ → ℕ → ℕ) (n : ℕ) (words : Matrix) : Type 0 where
+  pub bits : (a b : ℕ) → has_edge words a b ≡ (ltb a n && ltb b n && ltb 0 (edges a b))
 
 -- the words of both kinds of edges, of a layer of n pieces
-pub record Adjacency (s : Settings) (ps : List Piece) (n : ℕ) (conflictWords stitchWords : List ℕ) : Type 0 where
+pub record Adjacency (s : Settings) (ps : List Piece) (n : ℕ) (conflictWords stitchWords : Matrix) : Type 0 where
   pub conflicts : Holds (graph_of s ps).conflicts n conflictWords
   pub stitches : Holds (graph_of s ps).stitches n stitchWords
 
 -- the words of ties
-abbrev pub Ties : Settings → List Piece → ℕ → List ℕ → Type 0
+abbrev pub Ties : Settings → List Piece → ℕ → Matrix → Type 0
 Ties s ps n words = Holds (tie_graph s ps).stitches n words
 
 -- the words join two numbers both ways or not at all
-abbrev pub BothWays : List ℕ → Type 0
+abbrev pub BothWays : Matrix → Type 0
 BothWays words = (a b : ℕ) → a < 512 → b < 512 → has_edge words a b ≡ has_edge words b a
 
 -- the graph of adjacency words: two vertices have an edge of a kind where the words of that kind join them
-abbrev pub word_graph : List ℕ → List ℕ → Graph
+abbrev pub word_graph : Matrix → Matrix → Graph
 word_graph conflictWords stitchWords = record {
   conflicts = λ u v. given (has_edge conflictWords u v) 1;
   stitches = λ u v. given (has_edge stitchWords u v) 1;

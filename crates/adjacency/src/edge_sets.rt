@@ -1,7 +1,7 @@
 // The adjacency words of a judged layer: a bit for each pair of pieces, in words for each kind of edge and for ties. Each unordered pair
 // is met once, from its greater number, and both of its bits are set.
-ghost use Rattle.std.specs.Prelude.{◌&&◌, ◌||◌, ◌≡◌, ℕ, ◌<◌, length, replicate};
-ghost use Rattle.bitset.specs.Bits.{has_edge};
+ghost use Rattle.std.specs.Prelude.{◌&&◌, ◌||◌, ◌≡◌, ℕ, ◌<◌, length};
+ghost use Rattle.bitset.specs.Bits.{has_edge, no_edge};
 ghost use Rattle.adjacency.specs.Adjacency.{conflict_of, stitch_of, tie_of, is_pair, RowTo, Adjacency, Ties};
 ghost use Rattle.adjacency.specs.Kinds.{is_conflict, is_stitch, is_tie};
 
@@ -19,7 +19,7 @@ pub struct EdgeSets {
 impl EdgeSets {
     // No edge of either kind.
     pub fn empty() -> EdgeSets
-        ensures { result ≡ record { conflicts = replicate 4096 0; stitches = replicate 4096 0 } }
+        ensures { result ≡ record { conflicts = no_edge; stitches = no_edge } }
     {
         EdgeSets {
             conflicts: Matrix::empty(),
@@ -33,9 +33,9 @@ impl EdgeSets {
 fn join_by(edge: Edge, i: usize, j: usize, edges: &mut EdgeSets, ties: &mut Matrix)
     requires i_bound { i < 512 }
     requires j_bound { j < 512 }
-    ensures conflicts { (a b : ℕ) → b < 512 → has_edge edges.new.conflicts a b ≡ (has_edge edges.old.conflicts a b || (is_conflict edge && is_pair i j a b)) }
-    ensures stitches { (a b : ℕ) → b < 512 → has_edge edges.new.stitches a b ≡ (has_edge edges.old.stitches a b || (is_stitch edge && is_pair i j a b)) }
-    ensures ties { (a b : ℕ) → b < 512 → has_edge ties.new a b ≡ (has_edge ties.old a b || (is_tie edge && is_pair i j a b)) }
+    ensures conflicts { (a b : ℕ) → has_edge edges.new.conflicts a b ≡ (has_edge edges.old.conflicts a b || (is_conflict edge && is_pair i j a b)) }
+    ensures stitches { (a b : ℕ) → has_edge edges.new.stitches a b ≡ (has_edge edges.old.stitches a b || (is_stitch edge && is_pair i j a b)) }
+    ensures ties { (a b : ℕ) → has_edge ties.new a b ≡ (has_edge ties.old a b || (is_tie edge && is_pair i j a b)) }
 {
     match edge {
         Edge::Conflict => edges.conflicts.join(i, j),

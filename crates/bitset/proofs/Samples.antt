@@ -2,9 +2,8 @@
 -- Assumes nothing.
 use mathlib.Core.Path.{◌≡◌, refl}
 use mathlib.Core.Bool.{true, false}
-use mathlib.Core.List.{[], ◌∷◌, ◌++◌}
+use mathlib.Core.List.{[], ◌∷◌}
 use Prim.Native.Nat.{◌^◌}
-use lib.ListN.{replicate}
 use Rattle.bitset.specs.Bits.{bit, member, has_edge, count_below}
 
 bit_2_of_5 : bit 5 2 ≡ true
@@ -27,7 +26,7 @@ past_the_end : member (1 ∷ []) 64 ≡ false
 unfolding member bit
 past_the_end = refl
 
-row_1_has_2 : has_edge (replicate 8 0 ++ 4 ∷ []) 1 2 ≡ true
+row_1_has_2 : has_edge ([] ∷ (4 ∷ []) ∷ []) 1 2 ≡ true
 unfolding member bit
 row_1_has_2 = refl
 

@@ -1,11 +1,11 @@
--- Laws of `member` and `has_edge`: a word of a set and of a row, a set after one of its words is stored, sets of none and of
--- the numbers below a bound, and counts a word at a time. A member is a word and a place there, so each law is one on a
--- word's bits, and the place is found by arithmetic.
+-- Laws of `member` and `has_edge`: a word of a set, a set after one of its words is stored, sets of none and of the numbers
+-- below a bound, how many members there are, and a matrix with no edge. A member is a word and a place there, so each law of
+-- sets is one on a word's bits, and the place is found by arithmetic.
 -- Assumes nothing.
-use mathlib.Core.Path.{◌≡◌, sym, ap, ◌∙◌}
+use mathlib.Core.Path.{◌≡◌, refl, sym, ap₂, ◌∙◌}
 use mathlib.Core.Bool.{Bool, false, not, ◌&&◌, ◌||◌, or-false, and-true}
-use mathlib.Core.List.{List, ◌++◌}
-use Prim.Native.Nat.{ℕ, ◌+◌, ◌-◌, ◌*◌, ◌/◌, ◌%◌, ◌^◌, ◌≤◌, ◌<◌}
+use mathlib.Core.List.{List, [], ◌∷◌, ◌++◌}
+use Prim.Native.Nat.{ℕ, suc, ◌+◌, ◌-◌, ◌*◌, ◌/◌, ◌%◌, ◌^◌, ◌≤◌, ◌<◌}
 use native.Mathlib.Decide.{ℕ_discrete, dec_lt}
 use native.Mathlib.Omega.{arith}
 use lib.Dec.{eqb, ltb}
@@ -13,8 +13,10 @@ use lib.ListN.{length, get_or, set, drop, replicate, length-replicate, get_or-re
 use lib.Seq.{get_or-set_same, get_or-set_other}
 use lib.Bits.{bit_and, bit_or}
 use borrow.Author.Tests.{eq-eqb, ne_eqb, lt-ltb, le-ltb}
+use Rattle.std.specs.List.{sum_by}
+use Rattle.std.proofs.lemmas.List.Sums.{sum_by-cons}
 use Rattle.std.proofs.lemmas.List.{get_or_append_left, get_or-append_right, get_or-drop}
-use Rattle.bitset.specs.Bits.{bit, member, has_edge, both, rows_without, count_below, LowestSet, Dropped}
+use Rattle.bitset.specs.Bits.{bit, member, has_edge, no_edge, count_below, LowestSet, Dropped}
 use Rattle.bitset.proofs.Counts.{count_add, count_ext}
 use Rattle.bitset.proofs.Words.{bit-and, bit-or, bit_not, bit_shl, bit_ones, bit_of_zero}
 
@@ -35,7 +37,7 @@ same_ltb a b c d h i = go (dec_lt a b) (dec_lt c d)
     go (no n) (yes l) = absurd (n (i l))
     go (no n) (no m) = le-ltb a b (omega arith) ∙ sym (le-ltb c d (omega arith))
 
--- ---- a word of a set, and of a row
+-- ---- a word of a set
 
 pub member_at : (s : List ℕ) (w k : ℕ) → k < 64 → member s (64 * w + k) ≡ bit (get_or s w 0) k
 unfolding member
@@ -44,29 +46,27 @@ member_at s w k h =
     let r : (64 * w + k) % 64 ≡ k = omega arith in
     rw (q, r)
 
-pub has_edge_at : (adj : List ℕ) (i j : ℕ) → has_edge adj i j ≡ bit (get_or adj (8 * i + j / 64) 0) (j % 64)
-has_edge_at adj i j =
-    let e : 512 * i + j ≡ 64 * (8 * i + j / 64) + j % 64 = omega arith in
-    rw e (member_at adj (8 * i + j / 64) (j % 64) (omega arith))
+-- those in both sets, of the two words' `&`
+pub intersection_word : (s t : List ℕ) (w k : ℕ) → k < 64 → (member s (64 * w + k) && member t (64 * w + k)) ≡ bit (bit_and (get_or s w 0) (get_or t w 0)) k
+intersection_word s t w k l = rw (member_at s w k l, member_at t w k l) (sym (bit-and (get_or s w 0) (get_or t w 0) k))
 
--- those in a row and in a set, of the two words' `&`
-pub both_word : (adj : List ℕ) (i : ℕ) (s : List ℕ) (w k : ℕ) → k < 64 → both adj i s (64 * w + k) ≡ bit (bit_and (get_or adj (8 * i + w) 0) (get_or s w 0)) k
-both_word adj i s w k l =
-    let e : 512 * i + (64 * w + k) ≡ 64 * (8 * i + w) + k = omega arith in
-    rw (e, member_at adj (8 * i + w) k l, member_at s w k l) (sym (bit-and (get_or adj (8 * i + w) 0) (get_or s w 0) k))
+-- past the first word of a set, the members are those of the words after it
+member_later : (x : ℕ) (s : List ℕ) (k : ℕ) → member (x ∷ s) (64 + k) ≡ member s k
+unfolding member
+member_later x s k =
+    let q : (64 + k) / 64 ≡ suc (k / 64) = omega arith in
+    let r : (64 + k) % 64 ≡ k % 64 = omega arith in
+    rw (q, r)
 
--- those in a row of either matrix, in s and not in t
-pub rows_at : (a b : List ℕ) (i : ℕ) (s t : List ℕ) (w k : ℕ) → k < 64
-    → rows_without a b i s t (64 * w + k) ≡ ((bit (get_or a (8 * i + w) 0) k || bit (get_or b (8 * i + w) 0) k) && bit (get_or s w 0) k && not (bit (get_or t w 0) k))
-rows_at a b i s t w k l =
-    let e : 512 * i + (64 * w + k) ≡ 64 * (8 * i + w) + k = omega arith in
-    rw (e, member_at a (8 * i + w) k l, member_at b (8 * i + w) k l, member_at s w k l, member_at t w k l)
-
--- one word more of a count of members
-pub count_word : (s : List ℕ) (w : ℕ) → count_below (64 * (w + 1)) (member s) ≡ count_below (64 * w) (member s) + count_below 64 (bit (get_or s w 0))
-count_word s w =
-    let next : 64 * (w + 1) ≡ 64 * w + 64 = omega arith in
-    rw (next, count_add (64 * w) 64 (member s)) (ap (λ (n : ℕ). count_below (64 * w) (member s) + n) (count_ext 64 (member_at s w)))
+-- the members are as many as the bits of all words
+pub count_words : (s : List ℕ) → sum_by (λ x. count_below 64 (bit x)) s ≡ count_below (64 * length s) (member s)
+unfolding count_below
+count_words [] = refl
+count_words (x ∷ s) =
+    let next : 64 * suc (length s) ≡ 64 + 64 * length s = omega arith in
+    sum_by-cons (λ y. count_below 64 (bit y)) x s
+    ∙ rw (next, count_add 64 (64 * length s) (member (x ∷ s)), count_words s)
+    (sym (ap₂ ◌+◌ (count_ext 64 (member_at (x ∷ s) 0)) (count_ext (64 * length s) (λ k l. member_later x s k))))
 
 -- ---- a set with no member: past its last word, and where each word is 0
 
@@ -173,11 +173,12 @@ module _ (s : List ℕ) (w p j : ℕ) (l : w < length s) (h : p < 64) (e : 64 * 
   pub member_drop : (v : ℕ) → Dropped (get_or s w 0) v → LowestSet (get_or s w 0) p → (k : ℕ) → member (set s w v) k ≡ (member s k && not (eqb k j))
   member_drop v dropped low = member_store (λ a b. a && not b) and-true v (λ i m. dropped.bits p low i)
 
--- ---- a bit of a matrix is one number: its row and its place there
+-- ---- a matrix with no edge
 
-pub same_cell : (a b i j : ℕ) → b < 512 → j < 512 → eqb (512 * a + b) (512 * i + j) ≡ (eqb a i && eqb b j)
-same_cell a b i j hb hj = go (ℕ_discrete a i)
+pub no_edge_has : (a b : ℕ) → has_edge no_edge a b ≡ false
+unfolding no_edge
+no_edge_has a b = go (dec_lt a 512)
   where
-    go : Dec (a ≡ i) → eqb (512 * a + b) (512 * i + j) ≡ (eqb a i && eqb b j)
-    go (yes p) = rw (eq-eqb a i p) (same_eqb (512 * a + b) (512 * i + j) b j (λ e. omega arith) (λ e. omega arith))
-    go (no n) = rw (ne_eqb a i n) (ne_eqb (512 * a + b) (512 * i + j) (λ e. n (omega arith)))
+    go : Dec (a < 512) → has_edge no_edge a b ≡ false
+    go (yes l) = rw (get_or-replicate {A = List ℕ} 512 a (replicate 8 0) [] l) (member_none 8 b)
+    go (no m) = rw (get_or-eq_default {A = List ℕ} no_edge [] {n = a} (omega (arith, length-replicate {A = List ℕ} 512 (replicate 8 0)))) (member_none 0 b)

@@ -1,8 +1,8 @@
 -- What the contracts say: the bits of a word, the members of a set held in words of 64 bits, the edges of a graph held as a
--- matrix of bits, and how many numbers below a bound pass a test. Bits are read by division and remainder, so that
+-- matrix of such sets, and how many numbers below a bound pass a test. Bits are read by division and remainder, so that
 -- arithmetic settles most of what is asked of them.
 -- Assumes nothing.
-use Rattle.std.specs.Prelude.{ℕ, zero, suc, ◌+◌, ◌*◌, ◌/◌, ◌%◌, ◌^◌, ◌≤◌, ◌<◌, ◌≡◌, Bool, true, false, not, ◌&&◌, ◌||◌, List, eqb, get_or, replicate, Option, MatchOption}
+use Rattle.std.specs.Prelude.{ℕ, zero, suc, ◌+◌, ◌/◌, ◌%◌, ◌^◌, ◌≤◌, ◌<◌, ◌≡◌, Bool, true, false, not, ◌&&◌, ◌||◌, List, [], eqb, get_or, replicate, Option, MatchOption}
 use mir.Val.{bool_byte}
 
 -- whether bit j of the word x is set; bit 0 is the lowest
@@ -13,16 +13,20 @@ bit x j = eqb (x / 2 ^ j % 2) 1
 unfoldable pub member : List ℕ → ℕ → Bool
 member s j = bit (get_or s (j / 64) 0) (j % 64)
 
--- whether row i of the matrix adj, 512 bits to a row, has bit j
-abbrev pub has_edge : List ℕ → ℕ → ℕ → Bool
-has_edge adj i j = member adj (512 * i + j)
+-- whether j is a member of row i of the matrix adj
+abbrev pub has_edge : List (List ℕ) → ℕ → ℕ → Bool
+has_edge adj i j = member (get_or adj i []) j
+
+-- the matrix with no edge
+unfoldable pub no_edge : List (List ℕ)
+no_edge = replicate 512 (replicate 8 0)
 
 -- whether j is in row i of the matrix and in the set
-abbrev pub both : List ℕ → ℕ → List ℕ → ℕ → Bool
+abbrev pub both : List (List ℕ) → ℕ → List ℕ → ℕ → Bool
 both adj i s j = has_edge adj i j && member s j
 
 -- whether j is in row i of either matrix and in the set s, and not in the set t
-abbrev pub rows_without : List ℕ → List ℕ → ℕ → List ℕ → List ℕ → ℕ → Bool
+abbrev pub rows_without : List (List ℕ) → List (List ℕ) → ℕ → List ℕ → List ℕ → ℕ → Bool
 rows_without a b i s t j = (has_edge a i j || has_edge b i j) && member s j && not (member t j)
 
 -- how many k below n pass the test f
@@ -40,7 +44,7 @@ pub record Size (f : ℕ → Bool) (r : ℕ) : Type 0 where
   pub count : r ≡ count_below 512 f
   pub within : r ≤ 512
 
--- r is the least number that passes the test f, or 512 where none below 512 does
+-- nothing below r, which is at most 512, passes the test f, and r does if it is below 512
 pub record First (f : ℕ → Bool) (r : ℕ) : Type 0 where
   pub within : r ≤ 512
   pub before : (k : ℕ) → k < r → f k ≡ false

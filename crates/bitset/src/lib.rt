@@ -1,9 +1,9 @@
-// Bit sets: sets of numbers below 512 in eight words of 64 bits, and square bit matrices of 512 such rows, which hold the
+// Bit sets: sets of numbers below 512 in eight words of 64 bits, and square bit matrices of 512 such sets, which hold the
 // adjacency of a graph. A bit set is a set of vertices, and a row is a vertex's neighbours. What builds adjacency, peels
 // vertices of low degree, finds components and picks masks stands on this crate.
 //
-// Contracts see a set or a matrix as the list of its words, and say what is a member afterwards, for every number, so no
-// caller looks at words.
+// Contracts see a set as the list of its words and a matrix as the list of its rows, and say of each number that can be a
+// member whether it is one afterwards, so no caller looks at words.
 //
 // A loop over a set is `for v in set.members()`, and over a row `for v in matrix.neighbours_in(i, &set).members()`. Its
 // invariant reads what is left as `l.v-iterator`, which begins as the set and ends with no member, so the loop needs no

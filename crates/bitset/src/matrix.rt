@@ -1,38 +1,39 @@
-// Square bit matrices of 512 rows, each row eight words.
+// Square bit matrices of 512 rows, each row a set.
 
-ghost use Rattle.std.specs.Prelude.{◌≡◌, ◌&&◌, ◌||◌, List, ℕ, ◌<◌, eqb, replicate};
-ghost use Rattle.bitset.specs.Bits.{member, has_edge, both, rows_without, Size, Least};
+ghost use Rattle.std.specs.Prelude.{◌≡◌, ◌&&◌, ◌||◌, List, ℕ, ◌<◌, eqb};
+ghost use Rattle.bitset.specs.Bits.{member, has_edge, no_edge, both, rows_without, Size, Least};
 
-use crate::minus;
 use crate::set::BitSet;
-use std::array;
 use std::marker::Model;
 
-// The adjacency of a graph of at most 512 vertices: row i has bit j where i and j are joined.
+// The adjacency of a graph of at most 512 vertices: j is in row i, and i in row j, where i and j are joined.
 #[derive(Drop)]
 pub struct Matrix {
-    words: [u64; 4096],
+    rows: [BitSet; 512],
 }
 
 impl Model for Matrix {
-    ghost Value = { List ℕ };
+    ghost Value = { List (List ℕ) };
 
-    ghost view = { λ m. m.words };
+    ghost view = { λ m. m.rows };
 }
 
 impl Matrix {
     // The graph with no edge.
+    #[tactic(auto, unfolding(crate::specs::Bits::no_edge))]
     pub fn empty() -> Matrix
-        ensures { result ≡ replicate 4096 0 }
+        ensures { result ≡ no_edge }
     {
-        Matrix { words: [0; 4096] }
+        Matrix {
+            rows: [BitSet::empty(); 512],
+        }
     }
 
     // Takes all edges out.
     pub fn clear(&mut self)
-        ensures { self.new ≡ replicate 4096 0 }
+        ensures { self.new ≡ no_edge }
     {
-        self.words.fill(0);
+        self.rows.fill(BitSet::empty());
     }
 
     // Whether i and j are joined.
@@ -41,26 +42,17 @@ impl Matrix {
         requires j_bound { j < 512 }
         ensures { result ≡ has_edge self.now i j }
     {
-        self.words[8 * i + j / 64] >> (j % 64) & 1 == 1
-    }
-
-    // Sets bit j of row i, and no other.
-    fn mark(&mut self, i: usize, j: usize)
-        requires i_bound { i < 512 }
-        requires j_bound { j < 512 }
-        ensures { (a b : ℕ) → b < 512 → has_edge self.new a b ≡ (has_edge self.old a b || (eqb a i && eqb b j)) }
-    {
-        self.words[8 * i + j / 64] |= 1 << (j % 64);
+        self.rows[i].has(j)
     }
 
     // Joins i and j, both ways.
     pub fn join(&mut self, i: usize, j: usize)
         requires i_bound { i < 512 }
         requires j_bound { j < 512 }
-        ensures { (a b : ℕ) → b < 512 → has_edge self.new a b ≡ (has_edge self.old a b || (eqb a i && eqb b j) || (eqb a j && eqb b i)) }
+        ensures { (a b : ℕ) → has_edge self.new a b ≡ (has_edge self.old a b || (eqb a i && eqb b j) || (eqb a j && eqb b i)) }
     {
-        self.mark(i, j);
-        self.mark(j, i);
+        self.rows[i].put(j);
+        self.rows[j].put(i);
     }
 
     // The neighbours of i that are in the set.
@@ -68,10 +60,7 @@ impl Matrix {
         requires { i < 512 }
         ensures { (k : ℕ) → member result k ≡ both self.now i set.now k }
     {
-        let others = &set.words;
-        BitSet {
-            words: array::from_fn(|w| self.words[8 * i + w] & others[w]),
-        }
+        self.rows[i].intersection(set)
     }
 
     // How many neighbours of i are in the set: the degree of i inside the set.
@@ -95,11 +84,7 @@ impl Matrix {
         requires { i < 512 }
         ensures { (k : ℕ) → k < 512 → member result k ≡ rows_without self.now other.now i s.now t.now k }
     {
-        BitSet {
-            words: array::from_fn(|w| {
-                let either = self.words[8 * i + w] | other.words[8 * i + w];
-                minus(either & s.words[w], t.words[w])
-            }),
-        }
+        let either = self.rows[i].union(&other.rows[i]);
+        either.intersection(s).difference(t)
     }
 }

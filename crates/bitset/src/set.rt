@@ -72,11 +72,7 @@ impl BitSet {
     pub fn len(&self) -> usize
         ensures { Size (member self.now) result }
     {
-        let mut sum: usize = 0;
-        for word in self.words.iter() {
-            sum += ones(*word);
-        }
-        sum
+        self.words.iter().map(|word| ones(*word)).sum()
     }
 
     // The least member.
@@ -106,6 +102,16 @@ impl BitSet {
     {
         BitSet {
             words: array::from_fn(|w| self.words[w] | other.words[w]),
+        }
+    }
+
+    // The members of both sets.
+    pub fn intersection(&self, other: &BitSet) -> BitSet
+        ensures { (k : ℕ) → member result k ≡ (member self.now k && member other.now k) }
+    {
+        let others = &other.words;
+        BitSet {
+            words: array::from_fn(|w| self.words[w] & others[w]),
         }
     }
 

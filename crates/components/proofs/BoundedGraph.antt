@@ -10,6 +10,7 @@ use native.Mathlib.Omega.{arith}
 use lib.Dec.{ltb}
 use borrow.Author.Tests.{lt-ltb, le-ltb}
 use Rattle.bitset.specs.Bits.{has_edge}
+use Rattle.bitset.specs.declared.matrix.Matrix.{Matrix}
 use Rattle.rules.specs.Basics.{given}
 use Rattle.rules.specs.Edges.{Graph, joined}
 use Rattle.rules.proofs.Lists.{◌∈◌}
@@ -18,13 +19,13 @@ use Rattle.adjacency.proofs.AdjacencyLaws.{given_test}
 use Rattle.theory.proofs.Reach.{Symmetric}
 use Rattle.theory.proofs.Neighbours.{SameNeighbours}
 
-abbrev pub bounded : List ℕ → ℕ → ℕ → ℕ
+abbrev pub bounded : Matrix → ℕ → ℕ → ℕ
 bounded words u w = given (ltb u 512 && ltb w 512 && has_edge words u w) 1
 
-abbrev pub bounded_graph : List ℕ → List ℕ → Graph
+abbrev pub bounded_graph : Matrix → Matrix → Graph
 bounded_graph conflicts stitches = record { conflicts = bounded conflicts; stitches = bounded stitches }
 
-bounded_ways : (words : List ℕ) → BothWays words → (u w : ℕ) → bounded words u w ≡ bounded words w u
+bounded_ways : (words : Matrix) → BothWays words → (u w : ℕ) → bounded words u w ≡ bounded words w u
 bounded_ways words ways u w = go (dec_lt u 512) (dec_lt w 512)
   where
     go : Dec (u < 512) → Dec (w < 512) → bounded words u w ≡ bounded words w u
@@ -32,7 +33,7 @@ bounded_ways words ways u w = go (dec_lt u 512) (dec_lt w 512)
     go (yes l) (no m) = rw (lt-ltb u 512 l, le-ltb w 512 (omega arith))
     go (no l) d = rw (le-ltb u 512 (omega arith), and-false (ltb w 512))
 
-module _ (conflicts stitches : List ℕ) where
+module _ (conflicts stitches : Matrix) where
   pub bounded_symmetric : BothWays conflicts → BothWays stitches → Symmetric (bounded_graph conflicts stitches)
   bounded_symmetric c s u w = rw (bounded_ways conflicts c u w, bounded_ways stitches s u w)
 

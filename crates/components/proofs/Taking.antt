@@ -7,6 +7,7 @@ use Prim.Native.Nat.{ℕ, zero, suc, ◌≤◌, ◌<◌}
 use native.Mathlib.Omega.{arith}
 use lib.ListN.{length}
 use Rattle.bitset.specs.Bits.{member, First}
+use Rattle.bitset.specs.declared.matrix.Matrix.{Matrix}
 use Rattle.rules.specs.Basics.{keep, occurs, without}
 use Rattle.rules.specs.Edges.{Graph}
 use Rattle.rules.specs.Components.{component_of, components_for, components}
@@ -31,7 +32,7 @@ rounds_enough g (suc n) (suc m) (v ∷ after) h k =
     let fewer = keep_no_longer (λ u. not (occurs u c)) after in
     ap (λ (cs : List (List ℕ)). c ∷ cs) (rounds_enough g n m rest (omega (arith, fewer)) (omega (arith, fewer)))
 
-module _ {conflictWords stitchWords component : List ℕ} (rest rest' : List ℕ) {v : ℕ} (small : v < 512) (first : First (member rest) v)
+module _ {conflictWords stitchWords : Matrix} {component : List ℕ} (rest rest' : List ℕ) {v : ℕ} (small : v < 512) (first : First (member rest) v)
     (is : IsComponent conflictWords stitchWords rest v component) (gone : (k : ℕ) → k < 512 → member rest' k ≡ (member rest k && not (member component k))) where
   abbrev g : Graph
   g = word_graph conflictWords stitchWords

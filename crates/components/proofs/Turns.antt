@@ -9,6 +9,7 @@ use native.Mathlib.Omega.{arith}
 use lib.Dec.{eqb}
 use borrow.Author.Tests.{eqb-true, eq-eqb, not-true}
 use Rattle.bitset.specs.Bits.{member, has_edge, rows_without, count_below, Taken, Empty}
+use Rattle.bitset.specs.declared.matrix.Matrix.{Matrix}
 use Rattle.bitset.proofs.Counts.{count_ext, count_in}
 use Rattle.rules.specs.Basics.{without}
 use Rattle.rules.specs.Edges.{joined}
@@ -24,7 +25,7 @@ use Rattle.components.proofs.BoundedGraph.{bounded_graph, bounded_symmetric, bou
 use Rattle.components.proofs.Frontier.{Grown, grown_one, grown_more, grown_component, component_first}
 
 -- the bit sets inside and frontier, among those left
-abbrev pub GrownSets : List ℕ → List ℕ → List ℕ → ℕ → List ℕ → List ℕ → Type 0
+abbrev pub GrownSets : Matrix → Matrix → List ℕ → ℕ → List ℕ → List ℕ → Type 0
 GrownSets conflicts stitches left v inside frontier = Grown (bounded_graph conflicts stitches) (members_of left) (members_of inside) (members_of frontier) v
 
 -- ---- v alone
@@ -33,7 +34,7 @@ module _ (none one : List ℕ) (v : ℕ) (empty : Empty none) (put : (k : ℕ) �
   alone : (k : ℕ) → member one k ≡ eqb k v
   alone k = put k ∙ rw (empty.none k)
 
-  pub start_grown : (conflicts stitches left : List ℕ) → v < 512 → member left v ≡ true → GrownSets conflicts stitches left v one one
+  pub start_grown : (conflicts stitches : Matrix) (left : List ℕ) → v < 512 → member left v ≡ true → GrownSets conflicts stitches left v one one
   start_grown conflicts stitches left l m =
       grown_one (bounded_graph conflicts stitches) ((in_members left v).1 (l, m))
       (λ u. (
@@ -63,13 +64,13 @@ looked_turn false false false true a b c = clash (c refl) refl
 looked_turn false false false false a b c = refl
 
 -- u no longer waits, and its neighbours are new: they come in, and wait
-pub record Turn (conflicts stitches left inside frontier waiting new insideNow frontierNow : List ℕ) (u : ℕ) : Type 0 where
+pub record Turn (conflicts stitches : Matrix) (left inside frontier waiting new insideNow frontierNow : List ℕ) (u : ℕ) : Type 0 where
   pub taken : Taken frontier u waiting
   pub news : (k : ℕ) → k < 512 → member new k ≡ rows_without conflicts stitches u left inside k
   pub grow : (k : ℕ) → k < 512 → member insideNow k ≡ (member inside k || member new k)
   pub wait : (k : ℕ) → k < 512 → member frontierNow k ≡ (member waiting k || member new k)
 
-module _ {conflicts stitches left inside frontier waiting new insideNow frontierNow : List ℕ} {u : ℕ} (v : ℕ)
+module _ {conflicts stitches : Matrix} {left inside frontier waiting new insideNow frontierNow : List ℕ} {u : ℕ} (v : ℕ)
     (turn : Turn conflicts stitches left inside frontier waiting new insideNow frontierNow u) (old : GrownSets conflicts stitches left v inside frontier) where
   here_now : member frontier u ≡ true
   here_now = turn.taken.first.found turn.taken.small
@@ -117,7 +118,7 @@ module _ {conflicts stitches left inside frontier waiting new insideNow frontier
 
 -- ---- none waits
 
-module _ (conflicts stitches left : List ℕ) (v : ℕ) (inside frontier : List ℕ) (c : BothWays conflicts) (s : BothWays stitches) (none : (k : ℕ) → k < 512 → member frontier k ≡ false)
+module _ (conflicts stitches : Matrix) (left : List ℕ) (v : ℕ) (inside frontier : List ℕ) (c : BothWays conflicts) (s : BothWays stitches) (none : (k : ℕ) → k < 512 → member frontier k ≡ false)
     (grown : GrownSets conflicts stitches left v inside frontier) where
   whole : Component (bounded_graph conflicts stitches) (members_of left) (members_of inside)
   whole =

@@ -6,6 +6,7 @@ use Prim.Native.Nat.{ℕ, ◌-◌, ◌≤◌, ◌<◌}
 use native.Mathlib.Omega.{arith}
 use lib.ListN.{length}
 use Rattle.bitset.specs.Bits.{member, First}
+use Rattle.bitset.specs.declared.matrix.Matrix.{Matrix}
 use Rattle.rules.specs.Edges.{Graph}
 use Rattle.rules.specs.Components.{components_for, components}
 use Rattle.rules.specs.Decomposition.{Reached, search_all}
@@ -52,7 +53,7 @@ module _ {g : Graph} {fixed core : List ℕ} {l : Limits} {p₀ : Progress} {res
         fewer = c.fewer;
       }
 
-  module _ {conflictWords stitchWords : List ℕ} (joins : (vertices : List ℕ) → SameJoined g (word_graph conflictWords stitchWords) (members_of vertices))
+  module _ {conflictWords stitchWords : Matrix} (joins : (vertices : List ℕ) → SameJoined g (word_graph conflictWords stitchWords) (members_of vertices))
       {v : ℕ} {component : List ℕ} (small : v < 512) (first : First (member rest) v) (is : IsComponent conflictWords stitchWords rest v component) where
     -- the search may be made
     pub core_given : Given fixed component l p result

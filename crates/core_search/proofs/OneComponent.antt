@@ -7,6 +7,7 @@ use native.Mathlib.Omega.{arith}
 use lib.ListN.{length, get_or, take, length-map}
 use lib.Seq.{take-length}
 use Rattle.std.specs.Prelude.{Option}
+use Rattle.bitset.specs.declared.matrix.Matrix.{Matrix}
 use Rattle.rules.specs.Edges.{Graph}
 use Rattle.rules.specs.Settings.{unset}
 use Rattle.rules.specs.Library.{library_bound}
@@ -48,7 +49,7 @@ rising_places (x ∷ xs) r (suc i) (suc j) h l = rising_places xs r.1 i j (omega
 pub order_rises : (component order : List ℕ) → order ≡ members_of component → (i j : ℕ) → i < j → j < length order → get_or order i 0 < get_or order j 0
 order_rises component order is = rising_places order (rw is (members_rising component))
 
-module _ {conflictWords stitchWords units fixed component order places result : List ℕ} {lists : Lists} {n : ℕ} {l : Limits} {p : Progress} (end : Option ℕ)
+module _ {conflictWords stitchWords : Matrix} {units fixed component order places result : List ℕ} {lists : Lists} {n : ℕ} {l : Limits} {p : Progress} (end : Option ℕ)
     (given : Given fixed component l p result) (is : order ≡ members_of component) (few : length order ≤ 512)
     (laid : LaidOut conflictWords stitchWords units n order (length order) lists.starts lists.entries) (local : places ≡ map (fixed_at fixed) order)
     (early : end ≡ end_of (library_bound l.masks l.weight (list_graph lists.starts lists.entries) (fixed_to places (length places)) (length places))) where

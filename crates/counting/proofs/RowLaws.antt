@@ -8,6 +8,7 @@ use native.Mathlib.Omega.{arith}
 use lib.Dec.{eqb, ltb}
 use borrow.Author.Tests.{eq-eqb, ne_eqb, ltb-true, lt-ltb}
 use Rattle.bitset.specs.Bits.{member, has_edge, both, Taken}
+use Rattle.bitset.specs.declared.matrix.Matrix.{Matrix}
 use Rattle.rules.specs.declared.layer.Edge.{Edge}
 use Rattle.rules.specs.Basics.{given, sum_to}
 use Rattle.rules.specs.Score.{mask_of}
@@ -18,7 +19,7 @@ use Rattle.adjacency.specs.Adjacency.{BothWays}
 use Rattle.counting.specs.Counted.{edge_counts, edge_in}
 
 -- two numbers count for one edge at most
-pub edge_le : (edge : Edge) (words masks : List ℕ) (u v : ℕ) → edge_in edge words masks u v ≤ 1
+pub edge_le : (edge : Edge) (words : Matrix) (masks : List ℕ) (u v : ℕ) → edge_in edge words masks u v ≤ 1
 edge_le edge words masks u v = given_le (edge_counts edge (mask_of masks u) (mask_of masks v)) (given_le (has_edge words u v) (omega arith))
 
 given_swap : (a b : Bool) → given a (given b 1) ≡ given b (given a 1)
@@ -26,7 +27,7 @@ given_swap true b = refl
 given_swap false true = refl
 given_swap false false = refl
 
-module _ (edge : Edge) (words masks : List ℕ) (j : ℕ) where
+module _ (edge : Edge) (words : Matrix) (masks : List ℕ) (j : ℕ) where
   abbrev row : ℕ → ℕ
   row u = edge_in edge words masks u j
 

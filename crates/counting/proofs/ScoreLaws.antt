@@ -6,6 +6,7 @@ use Prim.Native.Nat.{ℕ, ◌≤◌}
 use native.Mathlib.Omega.{arith}
 use lib.Dec.{eqb}
 use borrow.Author.Tests.{eq-eqb, ne_eqb}
+use Rattle.bitset.specs.declared.matrix.Matrix.{Matrix}
 use Rattle.rules.specs.declared.layer.Settings.{Settings}
 use Rattle.rules.specs.declared.layer.Piece.{Piece}
 use Rattle.rules.specs.Basics.{given}
@@ -34,7 +35,7 @@ two_other {a} {b} h = rw (ne_eqb a b h) (and-true (not (eqb a unset) && not (eqb
 
 -- ---- words and graph
 
-pub words_score : (weight : ℕ) (s : Settings) (ps : List Piece) (n : ℕ) (conflicts stitches masks : List ℕ) → Adjacency s ps n conflicts stitches → n ≤ 512
+pub words_score : (weight : ℕ) (s : Settings) (ps : List Piece) (n : ℕ) (conflicts stitches : Matrix) (masks : List ℕ) → Adjacency s ps n conflicts stitches → n ≤ 512
     → score_of weight (word_graph conflicts stitches) masks n ≡ score_of weight (graph_of s ps) masks n
 unfolding score_of conflicts_of stitches_of
 words_score weight s ps n conflicts stitches masks adjacency l = rw (same-conflicts, same_stitches)

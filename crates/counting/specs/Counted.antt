@@ -1,6 +1,7 @@
 -- What an edge counts for between ends with masks. Assumes nothing: these are definitions.
 use Rattle.std.specs.Prelude.{Bool, false, not, ◌&&◌, List, ℕ, eqb}
 use Rattle.bitset.specs.Bits.{has_edge}
+use Rattle.bitset.specs.declared.matrix.Matrix.{Matrix}
 use Rattle.rules.specs.declared.layer.Edge.{Edge}
 use Rattle.rules.specs.Basics.{given}
 use Rattle.rules.specs.Settings.{unset}
@@ -21,5 +22,5 @@ edge_counts Edge.Tie a b = false
 edge_counts Edge.None a b = false
 
 -- what u and v count for by the words of one kind of edges
-abbrev pub edge_in : Edge → List ℕ → List ℕ → ℕ → ℕ → ℕ
+abbrev pub edge_in : Edge → Matrix → List ℕ → ℕ → ℕ → ℕ
 edge_in edge words masks u v = given (edge_counts edge (mask_of masks u) (mask_of masks v)) (given (has_edge words u v) 1)

@@ -3,6 +3,7 @@
 use mathlib.Core.List.{List}
 use mathlib.Core.Path.{sym, ◌∙◌}
 use Prim.Native.Nat.{ℕ, ◌≤◌}
+use Rattle.bitset.specs.declared.matrix.Matrix.{Matrix}
 use Rattle.rules.specs.declared.layer.Settings.{Settings}
 use Rattle.rules.specs.declared.layer.Piece.{Piece}
 use Rattle.rules.specs.Basics.{up_to}
@@ -16,7 +17,7 @@ use Rattle.adjacency.proofs.AdjacencyLaws.{given_test, words_edges, words_exclus
 use Rattle.places.specs.LaidOut.{Exclusive}
 use Rattle.theory.proofs.SameEdges.{SameEdges}
 
-module _ {s : Settings} {ps : List Piece} {n : ℕ} {conflicts stitches : List ℕ} (adjacency : Adjacency s ps n conflicts stitches) where
+module _ {s : Settings} {ps : List Piece} {n : ℕ} {conflicts stitches : Matrix} (adjacency : Adjacency s ps n conflicts stitches) where
   pub one_kind_each : Exclusive conflicts stitches
   one_kind_each =
       words_exclusive adjacency.conflicts adjacency.stitches λ a b e.

@@ -9,6 +9,7 @@ use lib.Dec.{eqb}
 use lib.ListN.{length, replicate}
 use Rattle.std.specs.Prelude as std
 use Rattle.std.specs.Prelude.{None, Some}
+use Rattle.bitset.specs.declared.matrix.Matrix.{Matrix}
 use Rattle.rules.specs.declared.layer.Settings.{Settings}
 use Rattle.rules.specs.declared.layer.Piece.{Piece}
 use Rattle.rules.specs.declared.answers.Score.{Score}
@@ -55,7 +56,7 @@ module _ (s : Settings) (ps : List Piece) (valid : Valid s ps) where
   few : length ps ≤ 512
   few = (layer_facts s ps valid).few
 
-  module _ {conflicts stitches units all : List ℕ} (adjacency : Adjacency s ps (length ps) conflicts stitches) (array : UnitsOf s ps units all) where
+  module _ {conflicts stitches : Matrix} {units all : List ℕ} (adjacency : Adjacency s ps (length ps) conflicts stitches) (array : UnitsOf s ps units all) where
     array_grouping : Grouping (unit_at units) (length ps)
     array_grouping = record {
       lower = λ i l. omega (arith, array.unit i l, (grouping s ps).lower i l);

@@ -6,6 +6,7 @@ use mathlib.Core.Path.{◌≡◌, sym, ap, ◌∙◌}
 use Prim.Native.Nat.{ℕ, ◌<◌}
 use native.Mathlib.Omega.{arith}
 use lib.ListN.{length, get_or, replicate, length-replicate}
+use Rattle.bitset.specs.declared.matrix.Matrix.{Matrix}
 use Rattle.rules.specs.declared.layer.Settings.{Settings}
 use Rattle.rules.specs.Edges.{Graph}
 use Rattle.rules.specs.Peeling.{peel}
@@ -31,7 +32,7 @@ use Rattle.theory.proofs.Neighbours.{SameNeighbours, joined_same, components_sam
 use Rattle.decomposer.specs.declared.stages.Searched.{Searched}
 use Rattle.decomposer.specs.Stages.{HasPlaces, HasFixed, SearchedCore, reached_of, Decomposed}
 
-module _ (s : Settings) (in_range : settings_in_range s ≡ true) {conflicts stitches units near stitched : List ℕ} {n : ℕ}
+module _ (s : Settings) (in_range : settings_in_range s ≡ true) {conflicts stitches near stitched : Matrix} {units : List ℕ} {n : ℕ}
     (mergedNear : Merged conflicts units n near) (mergedStitched : Merged stitches units n stitched)
     {fixed all core : List ℕ} {removed : List Removal}
     (peeled : PeeledTo s.masks (word_graph near stitched) (fixed_at fixed) all core removed)

@@ -11,6 +11,7 @@ use lib.Dec.{eqb}
 use lib.ListN.{length, get_or, length-append, length-map}
 use borrow.Author.Tests.{ne_eqb}
 use Rattle.bitset.specs.Bits.{member, has_edge, both}
+use Rattle.bitset.specs.declared.matrix.Matrix.{Matrix}
 use Rattle.rules.specs.Basics.{given, sum_of, up_to, count_of, keep, occurs}
 use Rattle.rules.specs.Units.{merged_into, edges_between}
 use Rattle.rules.proofs.Lists.{◌∈◌, here, later, each_cons, none_in, keep_in, keep_no_longer, in_up_to, up_to_snoc, length_up_to, length_keep, count_keep}
@@ -78,7 +79,7 @@ map_below f k (y ∷ ys) h x m = each_cons {Q = λ z. z < k} (h y (here refl)) (
 -- ---- How often a place is entered
 
 module _ {units : List ℕ} {n : ℕ} {order : List ℕ} {k : ℕ} {s seats : List ℕ} (few : n ≤ 512) (placed : Placed units n order k s seats) where
-  module _ (words : List ℕ) (ways : BothWays words) where
+  module _ (words : Matrix) (ways : BothWays words) where
     -- for a piece: once for each edge to a piece of that place
     piece_counted : (p i : ℕ) → p < 512 → i < k → count_of (eqb i) (piece_entries words seats s p) ≡ sum_of (λ q. given (has_edge words q p) 1) (merged_into (unit_at units) n (get_or order i 0))
     unfolding piece_entries
@@ -107,14 +108,14 @@ module _ {units : List ℕ} {n : ℕ} {order : List ℕ} {k : ℕ} {s seats : Li
         ∙ sym (sum_add (λ q. given (has_edge words q p) 1) (λ q. sum_of (λ p. given (has_edge words q p) 1) ps) (merged_into (unit_at units) n (get_or order i 0)))
 
   -- all are earlier places
-  piece_below : (words : List ℕ) (p x : ℕ) → x ∈ piece_entries words seats s p → x < k
+  piece_below : (words : Matrix) (p x : ℕ) → x ∈ piece_entries words seats s p → x < k
   unfolding piece_entries
   piece_below words p x m =
       map_below (λ q. get_or seats q 0) k (keep (both words p s) (up_to 512)) (λ u i.
       (placed.inside u (and_right (has_edge words p u) (member s u) (keep_in (both words p s) (up_to 512) i).1)).1)
       x m
 
-  place_below : (words ps : List ℕ) (x : ℕ) → x ∈ place_entries words seats s ps → x < k
+  place_below : (words : Matrix) (ps : List ℕ) (x : ℕ) → x ∈ place_entries words seats s ps → x < k
   unfolding place_entries
   place_below words [] x m = none_in m
   place_below words (p ∷ ps) x m = ⊎_elim (piece_below words p x) (place_below words ps x) (Memᴰ.append_cases (piece_entries words seats s p) m)
@@ -124,7 +125,7 @@ module _ {units : List ℕ} {n : ℕ} {order : List ℕ} {k : ℕ} {s seats : Li
     pieces = merged_into (unit_at units) n (get_or order k 0)
 
     -- a place is entered once for each edge between pieces of the two units
-    pub place_lists : (words : List ℕ) → BothWays words
+    pub place_lists : (words : Matrix) → BothWays words
         → Lists (λ i j. edges_between (λ a b. given (has_edge words a b) 1) (unit_at units) n (get_or order i 0) (get_or order j 0)) k (place_entries words seats s pieces)
     unfolding edges_between
     place_lists words ways = record {
@@ -157,7 +158,7 @@ module _ {units : List ℕ} {n : ℕ} {order : List ℕ} {k : ℕ} {s seats : Li
 
 -- ---- How many entries both kinds have
 
-module _ (conflictWords stitchWords : List ℕ) (exclusive : Exclusive conflictWords stitchWords) (seats s : List ℕ) where
+module _ (conflictWords stitchWords : Matrix) (exclusive : Exclusive conflictWords stitchWords) (seats s : List ℕ) where
   -- a piece has at most one for each piece of the set
   piece_few : (p : ℕ) → length (piece_entries conflictWords seats s p) + length (piece_entries stitchWords seats s p) ≤ length (members_of s)
   unfolding piece_entries members_of

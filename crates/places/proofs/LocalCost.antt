@@ -7,6 +7,7 @@ use Prim.Native.Nat.{ℕ, ◌+◌, ◌-◌, ◌*◌, ◌≤◌, ◌<◌}
 use native.Mathlib.Omega.{arith}
 use lib.Dec.{eqb}
 use lib.ListN.{length, get_or}
+use Rattle.bitset.specs.declared.matrix.Matrix.{Matrix}
 use Rattle.rules.specs.Basics.{given, sum_of, count_of}
 use Rattle.rules.specs.Edges.{Graph}
 use Rattle.rules.specs.Search.{local_graph, added}
@@ -60,7 +61,7 @@ listed_times l a b u lists h =
     sym (count_sum (eqb u) (entries l a (b - a)) ∙ sum_entries (λ x. given (eqb u x) 1) l a (b - a)) ∙ lists.counted u h
 
 -- all places are laid out
-pub laid_all : {conflictWords stitchWords units : List ℕ} {n : ℕ} {order : List ℕ} {size : ℕ} {starts list : List ℕ} {end : ℕ} → end ≤ 131_584
+pub laid_all : {conflictWords stitchWords : Matrix} {units : List ℕ} {n : ℕ} {order : List ℕ} {size : ℕ} {starts list : List ℕ} {end : ℕ} → end ≤ 131_584
     → Laid (local_graph (unit_graph conflictWords stitchWords units n) order) starts list end size → LaidOut conflictWords stitchWords units n order size starts list
 laid_all {starts = starts} {list = list} room laid = record {
   lists = λ k h. place_lists room (laid.place k h);

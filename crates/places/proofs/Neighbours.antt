@@ -6,6 +6,7 @@ use Prim.Native.Nat.{ℕ, ◌+◌, ◌≤◌, ◌<◌}
 use native.Mathlib.Omega.{arith}
 use lib.ListN.{length, get_or, set, length-append}
 use Rattle.bitset.specs.Bits.{member, both, Taken}
+use Rattle.bitset.specs.declared.matrix.Matrix.{Matrix}
 use Rattle.rules.specs.Basics.{up_to}
 use Rattle.rules.proofs.Lists.{keep_same}
 use Rattle.adjacency.specs.Members.{members_of}
@@ -19,7 +20,7 @@ use Rattle.places.proofs.Entries.{stored_none, stored_room, stored_next, stored_
 abbrev pub seats_of : List ℕ → List ℕ → List ℕ
 seats_of seats s = map (λ q. get_or seats q 0) (members_of s)
 
-module _ (words seats s : List ℕ) (p : ℕ) where
+module _ (words : Matrix) (seats s : List ℕ) (p : ℕ) where
   -- the neighbours, as a set
   pub piece_begun : (near : List ℕ) (a : ℕ) (list : List ℕ) → ((k : ℕ) → member near k ≡ both words p s k) → length list ≡ 131_584
       → Stored (piece_entries words seats s p) (seats_of seats near) a list list a
@@ -41,7 +42,7 @@ module _ (seats rest : List ℕ) {items : List ℕ} {a : ℕ} {before after : Li
 
 -- ---- Along the pieces of a place
 
-module _ (words seats set₀ rest : List ℕ) {items : List ℕ} {a : ℕ} {before after : List ℕ} {b : ℕ} (s : Stored items (place_entries words seats set₀ (members_of rest)) a before after b) where
+module _ (words : Matrix) (seats set₀ rest : List ℕ) {items : List ℕ} {a : ℕ} {before after : List ℕ} {b : ℕ} (s : Stored items (place_entries words seats set₀ (members_of rest)) a before after b) where
   module _ {p : ℕ} {rest' : List ℕ} (taken : Taken rest p rest') where
     -- the neighbours of p come first
     here : Stored items (piece_entries words seats set₀ p ++ place_entries words seats set₀ (members_of rest')) a before after b

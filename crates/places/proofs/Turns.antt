@@ -5,6 +5,7 @@ use Prim.Native.Nat.{ℕ, ◌+◌, ◌*◌, ◌≤◌, ◌<◌}
 use native.Mathlib.Nat.{mul-le-mul}
 use native.Mathlib.Omega.{arith}
 use lib.ListN.{length, get_or, set}
+use Rattle.bitset.specs.declared.matrix.Matrix.{Matrix}
 use Rattle.rules.specs.Search.{local_graph}
 use Rattle.rules.specs.Units.{merged_into}
 use Rattle.adjacency.specs.Members.{members_of}
@@ -20,14 +21,14 @@ use Rattle.places.proofs.Counting.{place_lists, place_few, pieces_few, pieces_in
 use Rattle.places.proofs.Laying.{Laid, laid_next}
 use Rattle.places.proofs.LocalCost.{laid_all}
 
-pub record Turn (conflictWords stitchWords units : List ℕ) (n : ℕ) (order starts list : List ℕ) (end k : ℕ) (s seats : List ℕ) : Type 0 where
+pub record Turn (conflictWords stitchWords : Matrix) (units : List ℕ) (n : ℕ) (order starts list : List ℕ) (end k : ℕ) (s seats : List ℕ) : Type 0 where
   pub laid : Laid (local_graph (unit_graph conflictWords stitchWords units n) order) starts list end k
   pub placed : Placed units n order k s seats
   -- an entry at most for each pair of pieces
   pub room : 2 * end + length (members_of s) ≤ length (members_of s) * length (members_of s)
 
 -- what is known of the words and of the order
-pub record Known (conflictWords stitchWords : List ℕ) (n : ℕ) (order : List ℕ) (size : ℕ) : Type 0 where
+pub record Known (conflictWords stitchWords : Matrix) (n : ℕ) (order : List ℕ) (size : ℕ) : Type 0 where
   pub few : n ≤ 512
   pub small : size ≤ 512
   pub rising : (i j : ℕ) → i < j → j < size → get_or order i 0 < get_or order j 0
@@ -35,7 +36,7 @@ pub record Known (conflictWords stitchWords : List ℕ) (n : ℕ) (order : List 
   pub conflict_ways : BothWays conflictWords
   pub stitch_ways : BothWays stitchWords
 
-module _ {conflictWords stitchWords units : List ℕ} {n : ℕ} {order : List ℕ} {size : ℕ} {starts list : List ℕ} {end k : ℕ} {s seats : List ℕ}
+module _ {conflictWords stitchWords : Matrix} {units : List ℕ} {n : ℕ} {order : List ℕ} {size : ℕ} {starts list : List ℕ} {end k : ℕ} {s seats : List ℕ}
     (known : Known conflictWords stitchWords n order size) (turn : Turn conflictWords stitchWords units n order starts list end k s seats) where
   module _ (l : k < size) where
     abbrev pieces : List ℕ

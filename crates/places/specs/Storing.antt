@@ -2,6 +2,7 @@
 -- Assumes nothing: these are definitions.
 use Rattle.std.specs.Prelude.{List, [], ◌∷◌, ◌++◌, map, ◌≡◌, ℕ, zero, suc, ◌+◌, ◌-◌, ◌≤◌, ◌<◌, length, get_or}
 use Rattle.bitset.specs.Bits.{both}
+use Rattle.bitset.specs.declared.matrix.Matrix.{Matrix}
 use Rattle.rules.specs.Basics.{up_to, keep}
 
 -- n entries of a list, from a on
@@ -17,10 +18,10 @@ pub record Stored (items left : List ℕ) (a : ℕ) (before after : List ℕ) (b
   pub kept : (j : ℕ) → j < a → get_or after j 0 ≡ get_or before j 0
 
 -- the places of the pieces that the words join to piece p, of those in the set
-unfoldable pub piece_entries : List ℕ → List ℕ → List ℕ → ℕ → List ℕ
+unfoldable pub piece_entries : Matrix → List ℕ → List ℕ → ℕ → List ℕ
 piece_entries words seats set p = map (λ q. get_or seats q 0) (keep (both words p set) (up_to 512))
 
 -- the same for each of several pieces
-unfoldable pub place_entries : List ℕ → List ℕ → List ℕ → List ℕ → List ℕ
+unfoldable pub place_entries : Matrix → List ℕ → List ℕ → List ℕ → List ℕ
 place_entries words seats set [] = []
 place_entries words seats set (p ∷ ps) = piece_entries words seats set p ++ place_entries words seats set ps

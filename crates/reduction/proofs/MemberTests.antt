@@ -9,6 +9,7 @@ use native.Mathlib.Omega.{arith}
 use lib.Dec.{ltb}
 use mir.Val.{bool_byte}
 use Rattle.bitset.specs.Bits.{member, has_edge, both, count_below}
+use Rattle.bitset.specs.declared.matrix.Matrix.{Matrix}
 use Rattle.bitset.proofs.Counts.{count_ext}
 use Rattle.rules.specs.Basics.{given, up_to, up_from, count_of, find}
 use Rattle.rules.proofs.Lists.{up_to_snoc, count_keep}
@@ -38,10 +39,10 @@ count_members f s = count_keep f (member s) (up_to 512) ∙ count_up_to (λ k. m
 
 -- ---- neighbours among the members, by the words of either kind
 
-pub among : (words s : List ℕ) (v k : ℕ) → (member s k && ltb 0 (given (has_edge words v k) 1)) ≡ both words v s k
+pub among : (words : Matrix) (s : List ℕ) (v k : ℕ) → (member s k && ltb 0 (given (has_edge words v k) 1)) ≡ both words v s k
 among words s v k = rw (given_test (has_edge words v k)) (and_comm (member s k) (has_edge words v k))
 
-pub degree : (words s : List ℕ) (v : ℕ) → count_of (λ u. ltb 0 (given (has_edge words v u) 1)) (members_of s) ≡ count_below 512 (both words v s)
+pub degree : (words : Matrix) (s : List ℕ) (v : ℕ) → count_of (λ u. ltb 0 (given (has_edge words v u) 1)) (members_of s) ≡ count_below 512 (both words v s)
 degree words s v = count_members (λ u. ltb 0 (given (has_edge words v u) 1)) s ∙ count_ext 512 (λ k l. among words s v k)
 
 -- ---- the first member that passes

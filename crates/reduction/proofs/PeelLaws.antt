@@ -15,6 +15,7 @@ use Rattle.std.specs.Prelude as std
 use Rattle.std.specs.Prelude.{None, Some}
 use Rattle.std.proofs.lemmas.List.Elements.{All-nil, All-push}
 use Rattle.bitset.specs.Bits.{member, has_edge, both, Size, Least}
+use Rattle.bitset.specs.declared.matrix.Matrix.{Matrix}
 use Rattle.bitset.proofs.Counts.{count_none}
 use Rattle.rules.specs.Basics.{find, without}
 use Rattle.rules.specs.Settings.{unset}
@@ -38,7 +39,7 @@ unfolding may_go
 go_fixed K g fixed there v d = rw (ne_eqb (fixed v) unset d)
 
 -- else by its two degrees
-module _ (K : ℕ) (conflicts stitches : List ℕ) (fixed : ℕ → ℕ) (s : List ℕ) (v near stitched : ℕ) (nearBy : Size (both conflicts v s) near) (stitchedTo : Size (both stitches v s) stitched) where
+module _ (K : ℕ) (conflicts stitches : Matrix) (fixed : ℕ → ℕ) (s : List ℕ) (v near stitched : ℕ) (nearBy : Size (both conflicts v s) near) (stitchedTo : Size (both stitches v s) stitched) where
   module _ (free : fixed v ≡ unset) where
     by_degrees : may_go K (word_graph conflicts stitches) fixed (members_of s) v ≡ ((eqb stitched 0 && ltb near K) || (eqb near 0 && eqb stitched 1))
     unfolding may_go
@@ -55,7 +56,7 @@ module _ (K : ℕ) (conflicts stitches : List ℕ) (fixed : ℕ → ℕ) (s : Li
 
 -- ---- the removal of v, by its lowest stitch neighbour
 
-module _ (K : ℕ) (conflicts stitches : List ℕ) (fixed : ℕ → ℕ) (s : List ℕ) (v : ℕ) where
+module _ (K : ℕ) (conflicts stitches : Matrix) (fixed : ℕ → ℕ) (s : List ℕ) (v : ℕ) where
   abbrev g : Graph
   g = word_graph conflicts stitches
 
@@ -120,7 +121,7 @@ pub record Progress (K : ℕ) (g : Graph) (fixed : ℕ → ℕ) (before there : 
 pub progress_none : (K : ℕ) (g : Graph) (fixed : ℕ → ℕ) (before : List ℕ) → Progress K g fixed before before []
 progress_none K g fixed before = record { same = refl; room = omega (arith, members_few before); inside = λ k e. e; listed = All-nil (WasIn before) }
 
-module _ {K : ℕ} (conflicts stitches : List ℕ) {fixed : ℕ → ℕ} {before there : List ℕ} {rs : List Removal}
+module _ {K : ℕ} (conflicts stitches : Matrix) {fixed : ℕ → ℕ} {before there : List ℕ} {rs : List Removal}
     (p : Progress K (word_graph conflicts stitches) fixed before there rs) where
   abbrev words : Graph
   words = word_graph conflicts stitches

@@ -6,6 +6,7 @@ use mathlib.Core.Path.{◌≡◌}
 use Prim.Native.Nat.{ℕ, ◌<◌}
 use lib.ListN.{length, get_or}
 use Rattle.bitset.specs.Bits.{member}
+use Rattle.bitset.specs.declared.matrix.Matrix.{Matrix}
 use Rattle.rules.specs.Edges.{Graph}
 use Rattle.rules.specs.Peeling.{peel}
 use Rattle.rules.specs.Decomposition.{with_returned}
@@ -31,7 +32,7 @@ module _ {K : ℕ} {g : Graph} {fixed : ℕ → ℕ} {before after : List ℕ} {
   pub peeled_masked : ((i : ℕ) → get_or masks i 0 < 8) → Masked after masks
   peeled_masked low = record { placed = λ u l e. placed u l (peeled.inside u e); low = low }
 
-pub put_back_all : (stitches : List ℕ) {K : ℕ} {fixed : ℕ → ℕ} {words before after masks result : List ℕ} {rs : List Removal}
+pub put_back_all : (stitches : Matrix) {K : ℕ} {fixed : ℕ → ℕ} {words : Matrix} {before after masks result : List ℕ} {rs : List Removal}
     → PeeledTo K (word_graph words stitches) fixed before after rs → PutBack K words rs after masks result
     → result ≡ with_returned K (word_graph words stitches) (peel K (word_graph words stitches) fixed (members_of before)) masks
 put_back_all stitches peeled back = rw (← peeled.removed, ← peeled.core) (back.masks stitches)

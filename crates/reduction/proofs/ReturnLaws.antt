@@ -15,6 +15,7 @@ use Rattle.std.proofs.lemmas.List.Elements.{All-weaker, All-pop}
 use Rattle.std.specs.Prelude as std
 use Rattle.std.specs.Prelude.{None, Some, unwrap_or}
 use Rattle.bitset.specs.Bits.{bit, member, has_edge, both, Taken, Lowest, WithMask}
+use Rattle.bitset.specs.declared.matrix.Matrix.{Matrix}
 use Rattle.bitset.proofs.Counts.{count_in, count_le, count_bits, count_missing}
 use Rattle.bitset.proofs.Words.{bit_of_zero}
 use Rattle.rules.specs.Basics.{up_to, any_of, find, found_or, without}
@@ -36,12 +37,12 @@ use Rattle.reduction.specs.Returning.{takes, InUse, LowestFree, mask_back, Retur
 -- ---- the masks in use
 
 -- the masks in `used`, and those of the neighbours still to come, are those of all neighbours
-pub record Seen (words there masks rest : List ℕ) (v used : ℕ) : Type 0 where
+pub record Seen (words : Matrix) (there masks rest : List ℕ) (v used : ℕ) : Type 0 where
   pub bits : (m : ℕ) → (bit used m || any_of (takes words masks v m) (members_of rest)) ≡ any_of (takes words masks v m) (members_of there)
   pub small : used < 2 ^ 8
   pub inside : (k : ℕ) → k < 512 → member rest k ≡ true → both words v there k ≡ true
 
-pub seen_none : (words there masks rest : List ℕ) (v : ℕ) → ((k : ℕ) → member rest k ≡ both words v there k) → Seen words there masks rest v 0
+pub seen_none : (words : Matrix) (there masks rest : List ℕ) (v : ℕ) → ((k : ℕ) → member rest k ≡ both words v there k) → Seen words there masks rest v 0
 seen_none words there masks rest v near = record {
   bits = λ m. rw (bit_of_zero m) (by_test (any_of (takes words masks v m) (members_of there)) (λ e. here m e ∙ sym e) (λ e. out m e ∙ sym e));
   small = omega arith;
@@ -62,7 +63,7 @@ seen_none words there masks rest v near = record {
         let n = sym (near u) ∙ r.1 in
         any_out (takes words masks v m) (members_of there) e u ((in_members there u).1 (r.0, and_right (has_edge words v u) (member there u) n))
 
-module _ {words there masks rest : List ℕ} {v used : ℕ} (seen : Seen words there masks rest v used) where
+module _ {words : Matrix} {there masks rest : List ℕ} {v used : ℕ} (seen : Seen words there masks rest v used) where
   pub seen_all : ((k : ℕ) → k < 512 → member rest k ≡ false) → InUse words there masks v used
   seen_all none = record { bits = λ m. sym (or-false (bit used m)) ∙ ap (λ (b : Bool). bit used m || b) (sym (none_left m)) ∙ seen.bits m; small = seen.small }
     where
@@ -124,7 +125,7 @@ module _ (K used : ℕ) where
         count_missing 8 (bit used) (omega arith)
 
 -- the test by words and members is the rules' test
-taken : (words stitches masks present there : List ℕ) (v m : ℕ) → Same present (members_of there)
+taken : (words stitches : Matrix) (masks present there : List ℕ) (v m : ℕ) → Same present (members_of there)
     → any_of (λ u. in_conflict (word_graph words stitches) v u && eqb (mask_of masks u) m) present ≡ any_of (takes words masks v m) (members_of there)
 taken words stitches masks present there v m s =
     any_same (λ u. in_conflict (word_graph words stitches) v u && eqb (mask_of masks u) m) (takes words masks v m) present (λ u i. rw (given_test (has_edge words v u)))
@@ -139,8 +140,8 @@ found K x (Some m) free = (sym (ap (found_or 0) free.0), free.1)
 pub free_small : (K x : ℕ) (o : std.Option ℕ) → LowestFree K x o → unwrap_or o 0 < 8
 free_small K x o free = (found K x o free).1
 
-pub free_in_use : (K : ℕ) (words there masks : List ℕ) (v x : ℕ) (o : std.Option ℕ) → InUse words there masks v x → LowestFree K x o
-    → (stitches : List ℕ) → unwrap_or o 0 ≡ free_mask K (word_graph words stitches) (record { there = members_of there; masks = masks }) v
+pub free_in_use : (K : ℕ) (words : Matrix) (there masks : List ℕ) (v x : ℕ) (o : std.Option ℕ) → InUse words there masks v x → LowestFree K x o
+    → (stitches : Matrix) → unwrap_or o 0 ≡ free_mask K (word_graph words stitches) (record { there = members_of there; masks = masks }) v
 free_in_use K words there masks v x o used free stitches =
     (found K x o free).0
     ∙ ap (found_or 0) (find_same (λ m. not (bit x m)) _ (up_to K)
@@ -149,10 +150,10 @@ free_in_use K words there masks v x o used free stitches =
 -- ---- how far putting back is
 
 -- the removals still to return make of those present now what all of them make of those present at the start
-pub record Returning (K : ℕ) (words : List ℕ) (all left : List Removal) (start before there masks : List ℕ) : Type 0 where
+pub record Returning (K : ℕ) (words : Matrix) (all left : List Removal) (start before there masks : List ℕ) : Type 0 where
   pub present : List ℕ
   pub same : Same present (members_of there)
-  pub rest : (stitches : List ℕ)
+  pub rest : (stitches : Matrix)
       → let g = word_graph words stitches in
       put_back_all K g (removals_of all) (record { there = members_of start; masks = before })
       ≡ put_back_all K g (removals_of left) (record { there = present; masks = masks })
@@ -160,7 +161,7 @@ pub record Returning (K : ℕ) (words : List ℕ) (all left : List Removal) (sta
   pub masked : Masked there masks
   pub placeable : Placeable left masks
 
-pub returning_none : (K : ℕ) (words : List ℕ) (all : List Removal) {start before : List ℕ} → Placeable all before → Masked start before → Returning K words all all start before start before
+pub returning_none : (K : ℕ) (words : Matrix) (all : List Removal) {start before : List ℕ} → Placeable all before → Masked start before → Returning K words all all start before start before
 returning_none K words all {start} placeable masked = record {
   present = members_of start;
   same = λ u. (λ i. i, λ i. i);
@@ -170,7 +171,7 @@ returning_none K words all {start} placeable masked = record {
   placeable = placeable;
 }
 
-pub returning_all : {K : ℕ} {words : List ℕ} {all left : List Removal} {start before there masks : List ℕ}
+pub returning_all : {K : ℕ} {words : Matrix} {all left : List Removal} {start before there masks : List ℕ}
     → Returning K words all left start before there masks → length left ≡ 0 → PutBack K words all start before masks
 unfolding put_back_all
 returning_all {left = left} r e = record {
@@ -215,7 +216,7 @@ placed_still {masks} {after} e rs = All-weaker (HasPlace masks) (HasPlace after)
     (λ r p. record { small = p.small; vertex = omega (arith, p.vertex); neighbour = λ u q. omega (arith, p.neighbour u q) }) rs
 
 -- one vertex returns: the last of those that are left
-module _ {K : ℕ} {words : List ℕ} {all left : List Removal} (earlier : List Removal) {r : Removal} {start before there masks : List ℕ}
+module _ {K : ℕ} {words : Matrix} {all left : List Removal} (earlier : List Removal) {r : Removal} {start before there masks : List ℕ}
     (returning : Returning K words all left start before there masks) (last : left ≡ earlier ++ (r ∷ [])) where
   split : (Placeable earlier masks) × (HasPlace masks r)
   split = All-pop (HasPlace masks) left earlier (Some r) last returning.placeable
@@ -242,7 +243,7 @@ module _ {K : ℕ} {words : List ℕ} {all left : List Removal} (earlier : List 
     placeable = placed_still (length-set masks r.vertex m) earlier split.0;
   }
     where
-      back_same : (stitches : List ℕ) (o : std.Option ℕ) → let g = word_graph words stitches in
+      back_same : (stitches : Matrix) (o : std.Option ℕ) → let g = word_graph words stitches in
           mask_back K g (members_of there) masks r.vertex o ≡ mask_back K g returning.present masks r.vertex o
       back_same stitches None =
           let g = word_graph words stitches in

@@ -4,6 +4,7 @@ use Rattle.std.specs.Prelude.{Bool, true, not, ◌&&◌, List, ◌≡◌, ℕ, �
 use Rattle.std.specs.List.{All}
 use Rattle.std.proofs.Math.Option.{none, some}
 use Rattle.bitset.specs.Bits.{bit, member, has_edge}
+use Rattle.bitset.specs.declared.matrix.Matrix.{Matrix}
 use Rattle.rules.specs.Basics.{up_to, any_of, find}
 use Rattle.rules.specs.Edges.{Graph}
 use Rattle.rules.specs.Score.{mask_of}
@@ -14,11 +15,11 @@ use Rattle.reduction.specs.declared.peeling.Removal.{Removal}
 use Rattle.reduction.specs.Removals.{removals_of}
 
 -- whether u is joined to v and has mask m
-abbrev pub takes : List ℕ → List ℕ → ℕ → ℕ → ℕ → Bool
+abbrev pub takes : Matrix → List ℕ → ℕ → ℕ → ℕ → Bool
 takes words masks v m u = has_edge words v u && eqb (mask_of masks u) m
 
 -- bit m of x is set exactly where a member joined to v has mask m
-pub record InUse (words there masks : List ℕ) (v x : ℕ) : Type 0 where
+pub record InUse (words : Matrix) (there masks : List ℕ) (v x : ℕ) : Type 0 where
   pub bits : (m : ℕ) → bit x m ≡ any_of (takes words masks v m) (members_of there)
   pub small : x < 2 ^ 8
 
@@ -34,8 +35,8 @@ mask_back K g there masks v None = free_mask K g (record { there = there; masks 
 mask_back K g there masks v (Some u) = mask_of masks u
 
 -- A vertex returns with mask m. Stitch edges play no part in it.
-pub record ReturnsWith (K : ℕ) (words there masks : List ℕ) (r : Removal) (m : ℕ) : Type 0 where
-  pub mask : (stitches : List ℕ) → m ≡ mask_back K (word_graph words stitches) (members_of there) masks r.vertex r.neighbour
+pub record ReturnsWith (K : ℕ) (words : Matrix) (there masks : List ℕ) (r : Removal) (m : ℕ) : Type 0 where
+  pub mask : (stitches : Matrix) → m ≡ mask_back K (word_graph words stitches) (members_of there) masks r.vertex r.neighbour
   pub small : m < 8
 
 -- every member has a place among the masks, and every mask is below 8
@@ -53,8 +54,8 @@ abbrev pub Placeable : List Removal → List ℕ → Type 0
 Placeable rs masks = All (HasPlace masks) rs
 
 -- The removals returned to the members of `there`, with `before` as the masks. Stitch edges play no part in it, and the masks stay fit for a later call.
-pub record PutBack (K : ℕ) (words : List ℕ) (rs : List Removal) (there before after : List ℕ) : Type 0 where
-  pub masks : (stitches : List ℕ)
+pub record PutBack (K : ℕ) (words : Matrix) (rs : List Removal) (there before after : List ℕ) : Type 0 where
+  pub masks : (stitches : Matrix)
       → after ≡ (put_back_all K (word_graph words stitches) (removals_of rs) (record { there = members_of there; masks = before })).masks
   pub size : length after ≡ length before
   pub low : (i : ℕ) → get_or after i 0 < 8

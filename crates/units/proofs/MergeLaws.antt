@@ -7,10 +7,10 @@ use mathlib.Core.Path.{◌≡◌, refl, sym, ap, ◌∙◌}
 use Prim.Native.Nat.{ℕ, ◌+◌, ◌≤◌, ◌<◌}
 use native.Mathlib.Omega.{arith}
 use lib.Dec.{eqb, ltb}
-use lib.ListN.{replicate}
 use borrow.Author.Tests.{eqb-true, eqb-false, eq-eqb, ne_eqb, ltb-true, lt-ltb, not-true}
-use Rattle.bitset.specs.Bits.{member, has_edge, both as inRowAndSet, Taken}
-use Rattle.bitset.proofs.Sets.{member_none}
+use Rattle.bitset.specs.Bits.{member, has_edge, no_edge, both as inRowAndSet, Taken}
+use Rattle.bitset.specs.declared.matrix.Matrix.{Matrix}
+use Rattle.bitset.proofs.Sets.{no_edge_has}
 use Rattle.rules.specs.Basics.{up_from, up_to, any_of}
 use Rattle.rules.proofs.Lists.{any_in, in_any, any_next, out_any, in_up_to}
 use Rattle.rules.proofs.Finding.{any_without}
@@ -26,13 +26,13 @@ use Rattle.units.proofs.UnitNeighbours.{UnitEdge, unit_edge, other_way, unit_edg
 -- ---- one row
 
 -- the edges to the neighbours in `rest` have yet to be met
-pub record MergingRow (words units : List ℕ) (j : ℕ) (before after rest : List ℕ) : Type 0 where
-  pub bits : (a b : ℕ) → b < 512
+pub record MergingRow (words : Matrix) (units : List ℕ) (j : ℕ) (before after : Matrix) (rest : List ℕ) : Type 0 where
+  pub bits : (a b : ℕ)
       → (has_edge after a b || any_of (λ i. two_units (unit_at units i) (unit_at units j) a b) (members_of rest))
       ≡ (has_edge before a b || any_of (joins_units words units a b j) (up_to j))
   pub within : (k : ℕ) → member rest k ≡ true → k < j
 
-module _ (words units : List ℕ) (j : ℕ) (small : j < 512) (below rest : List ℕ) (numbers : (k : ℕ) → member below k ≡ ltb k j)
+module _ (words : Matrix) (units : List ℕ) (j : ℕ) (small : j < 512) (below rest : List ℕ) (numbers : (k : ℕ) → member below k ≡ ltb k j)
     (near : (k : ℕ) → member rest k ≡ inRowAndSet words j below k) where
   -- the neighbours before piece j
   row_neighbour : (k : ℕ) → member rest k ≡ true → (has_edge words j k ≡ true) × (k < j)
@@ -50,47 +50,47 @@ module _ (words units : List ℕ) (j : ℕ) (small : j < 512) (below rest : List
       let (edge, two) = both (has_edge words j i) _ t in
       in_any _ ((in_members rest i).1 (omega arith, near i ∙ rw (edge, numbers i, lt-ltb i j l))) two)
 
-  pub row_none : (before : List ℕ) → MergingRow words units j before before rest
-  row_none before = record { bits = λ a b h. rw (row_joins a b); within = λ k e. (row_neighbour k e).1 }
+  pub row_none : (before : Matrix) → MergingRow words units j before before rest
+  row_none before = record { bits = λ a b. rw (row_joins a b); within = λ k e. (row_neighbour k e).1 }
 
-module _ {words units : List ℕ} {j : ℕ} {before after rest : List ℕ} (row : MergingRow words units j before after rest) where
+module _ {words : Matrix} {units : List ℕ} {j : ℕ} {before after : Matrix} {rest : List ℕ} (row : MergingRow words units j before after rest) where
   -- none is left
   pub row_all : ((k : ℕ) → k < 512 → member rest k ≡ false) → MergedRow words units j before after
-  row_all none = record { bits = λ a b h. sym (or-false (has_edge after a b)) ∙ ap (λ (t : Bool). has_edge after a b || t) (sym (out a b)) ∙ row.bits a b h }
+  row_all none = record { bits = λ a b. sym (or-false (has_edge after a b)) ∙ ap (λ (t : Bool). has_edge after a b || t) (sym (out a b)) ∙ row.bits a b }
     where
       out : (a b : ℕ) → any_of (λ i. two_units (unit_at units i) (unit_at units j) a b) (members_of rest) ≡ false
       out a b = out_any _ (members_of rest) (λ i m. let (l, e) = (in_members rest i).0 m in clash e (none i l))
 
   module _ {i : ℕ} {rest' : List ℕ} (taken : Taken rest i rest') where
     -- its edge is merged
-    pub row_next : {after' : List ℕ} → ((a b : ℕ) → b < 512 → has_edge after' a b ≡ (has_edge after a b || two_units (unit_at units i) (unit_at units j) a b))
+    pub row_next : {after' : Matrix} → ((a b : ℕ) → has_edge after' a b ≡ (has_edge after a b || two_units (unit_at units i) (unit_at units j) a b))
         → MergingRow words units j before after' rest'
     row_next {after'} more = record {
-      bits = λ a b h.
+      bits = λ a b.
           let f : ℕ → Bool = λ i. two_units (unit_at units i) (unit_at units j) a b in
           let split : any_of f (members_of rest) ≡ (f i || any_of f (members_of rest'))
           = any_without f ((in_members rest i).1 (taken.small, taken.first.found taken.small)) ∙ rw (members_out rest rest' i taken.out) in
-          rw (more a b h)
+          rw (more a b)
           (or_assoc (has_edge after a b) (f i) (any_of f (members_of rest'))
           ∙ ap (λ (t : Bool). has_edge after a b || t) (sym split)
-          ∙ row.bits a b h);
+          ∙ row.bits a b);
       within = λ k e. row.within k (both (member rest k) (not (eqb k i)) (sym (taken.out k) ∙ e)).0;
     }
 
 -- ---- all rows
 
 -- the words after the rows below m
-pub record MergedRows (words units : List ℕ) (m : ℕ) (merged : List ℕ) : Type 0 where
-  pub bits : (a b : ℕ) → b < 512 → has_edge merged a b ≡ any_of (λ j. any_of (joins_units words units a b j) (up_to j)) (up_to m)
+pub record MergedRows (words : Matrix) (units : List ℕ) (m : ℕ) (merged : Matrix) : Type 0 where
+  pub bits : (a b : ℕ) → has_edge merged a b ≡ any_of (λ j. any_of (joins_units words units a b j) (up_to j)) (up_to m)
 
-pub rows_none : (words units : List ℕ) {merged : List ℕ} → merged ≡ replicate 4096 0 → MergedRows words units 0 merged
+pub rows_none : (words : Matrix) (units : List ℕ) {merged : Matrix} → merged ≡ no_edge → MergedRows words units 0 merged
 unfolding up_from any_of
-rows_none words units e = record { bits = λ a b h. rw e (member_none 4096 _) }
+rows_none words units e = record { bits = λ a b. rw e (no_edge_has a b) }
 
-pub rows_next : {words units : List ℕ} {m : ℕ} {merged merged' : List ℕ} → MergedRows words units m merged → MergedRow words units m merged merged'
+pub rows_next : {words : Matrix} {units : List ℕ} {m : ℕ} {merged merged' : Matrix} → MergedRows words units m merged → MergedRow words units m merged merged'
     → MergedRows words units (m + 1) merged'
 rows_next {words} {units} {m} rows row = record {
-  bits = λ a b h. row.bits a b h ∙ rw (rows.bits a b h) (sym (any_next (λ j. any_of (joins_units words units a b j) (up_to j)) m));
+  bits = λ a b. row.bits a b ∙ rw (rows.bits a b) (sym (any_next (λ j. any_of (joins_units words units a b j) (up_to j)) m));
 }
 
 -- two units, named in the one order or the other
@@ -100,7 +100,7 @@ two_along a b h = rw (ne_eqb a b h, eq-eqb a a refl, eq-eqb b b refl)
 two_across : (a b : ℕ) → (a ≡ b → ⊥) → two_units b a a b ≡ true
 two_across a b h = rw (ne_eqb b a (λ e. h (sym e)), ne_eqb a b h, eq-eqb a a refl, eq-eqb b b refl)
 
-module _ {words units : List ℕ} {n : ℕ} (few : n ≤ 512) (ways : BothWays words) where
+module _ {words : Matrix} {units : List ℕ} {n : ℕ} (few : n ≤ 512) (ways : BothWays words) where
   -- an edge that was met joins two units
   joined_units : {a b i j : ℕ} → i < j → j < n → joins_units words units a b j i ≡ true → UnitEdge words units n a b
   joined_units {a} {b} {i} {j} l h e =
@@ -121,20 +121,20 @@ module _ {words units : List ℕ} {n : ℕ} (few : n ≤ 512) (ways : BothWays w
   units_joined {a} {b} u =
       ⊎_elim
       (λ l. in_any _ ((in_up_to n u.to).1 u.to_piece)
-      (in_any _ ((in_up_to u.to u.from).1 l)
+      (in_any (joins_units words units a b u.to) ((in_up_to u.to u.from).1 l)
       (rw (other_way units few ways u, u.from_unit, u.to_unit) (two_along a b u.two))))
       (λ l. in_any _ ((in_up_to n u.from).1 u.from_piece)
-      (in_any _ ((in_up_to u.from u.to).1 (omega (arith, apart)))
+      (in_any (joins_units words units a b u.from) ((in_up_to u.from u.to).1 (omega (arith, apart)))
       (rw (u.edge, u.from_unit, u.to_unit) (two_across a b u.two))))
       (lt_or_ge u.from u.to)
     where
       apart : u.from ≡ u.to → ⊥
       apart e = u.two (sym u.from_unit ∙ ap (unit_at units) e ∙ u.to_unit)
 
-  pub rows_all : {merged : List ℕ} → MergedRows words units n merged → Merged words units n merged
+  pub rows_all : {merged : Matrix} → MergedRows words units n merged → Merged words units n merged
   rows_all rows = record {
-    bits = λ a b l h.
-        rows.bits a b h
+    bits = λ a b _ _.
+        rows.bits a b
         ∙ same _ _
         (λ e.
         let (j, m, row) = any_in _ (up_to n) e in

@@ -9,6 +9,7 @@ use lib.Dec.{eqb, ltb}
 use lib.ListN.{length}
 use borrow.Author.Tests.{ne_eqb, lt-ltb}
 use Rattle.bitset.specs.Bits.{member, First}
+use Rattle.bitset.specs.declared.matrix.Matrix.{Matrix}
 use Rattle.rules.specs.Basics.{up_to, keep}
 use Rattle.rules.specs.Edges.{Graph}
 use Rattle.rules.specs.Components.{components}
@@ -25,7 +26,7 @@ use Rattle.units.specs.Numbered.{Numbered}
 use Rattle.units.specs.Steps.{GivenNumber}
 
 -- Of the pieces in `all` those in `rest` have yet to be numbered. The others have their numbers, and `numbers` has those that are units' numbers.
-pub record Numbering (tieWords all : List ℕ) (n : ℕ) (units numbers rest : List ℕ) : Type 0 where
+pub record Numbering (tieWords : Matrix) (all : List ℕ) (n : ℕ) (units numbers rest : List ℕ) : Type 0 where
   pub whole : length units ≡ n
   pub within : (k : ℕ) → k < 512 → member rest k ≡ true → member all k ≡ true
   pub unit : (i : ℕ) → i < 512 → member all i ≡ true
@@ -33,7 +34,7 @@ pub record Numbering (tieWords all : List ℕ) (n : ℕ) (units numbers rest : L
       ≡ part_of (components (word_graph tieWords tieWords) (members_of all)) i
   pub numbers_so_far : (k : ℕ) → k < 512 → member numbers k ≡ (member all k && not (member rest k) && eqb (unit_at units k) k)
 
-module _ {tieWords all units numbers rest : List ℕ} {n : ℕ} (numbering : Numbering tieWords all n units numbers rest) where
+module _ {tieWords : Matrix} {all units numbers rest : List ℕ} {n : ℕ} (numbering : Numbering tieWords all n units numbers rest) where
   abbrev g : Graph
   g = word_graph tieWords tieWords
 

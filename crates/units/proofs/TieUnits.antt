@@ -5,6 +5,7 @@ use mathlib.Core.Path.{◌≡◌, ap, ◌∙◌}
 use Prim.Native.Nat.{ℕ, ◌≤◌, ◌<◌}
 use lib.ListN.{length, take, replicate}
 use lib.Seq.{length-take-le}
+use Rattle.bitset.specs.declared.matrix.Matrix.{Matrix}
 use Rattle.rules.specs.declared.layer.Settings.{Settings}
 use Rattle.rules.specs.declared.layer.Piece.{Piece}
 use Rattle.rules.specs.Basics.{up_to}
@@ -31,7 +32,7 @@ front_length n few = length-take-le n (replicate 512 0) few
 pub new_front : (s : Settings) (ps : List Piece) → Valid s ps → length (take (length ps) (replicate {A = ℕ} 512 0)) ≡ length ps
 new_front s ps valid = front_length (length ps) (layer_facts s ps valid).few
 
-module _ (s : Settings) (ps : List Piece) {ties : List ℕ} (holds : Ties s ps (length ps) ties) where
+module _ (s : Settings) (ps : List Piece) {ties : Matrix} (holds : Ties s ps (length ps) ties) where
   pub ties_ways : BothWays ties
   ties_ways = words_symmetric (tie_graph s ps).stitches (length ps) ties holds (λ a b. rw (tie_sym s (piece_at ps a) (piece_at ps b)))
 

@@ -9,6 +9,7 @@ use native.Mathlib.Omega.{arith}
 use lib.Dec.{eqb, ltb}
 use borrow.Author.Tests.{eqb-false, ne_eqb, not-true}
 use Rattle.bitset.specs.Bits.{has_edge}
+use Rattle.bitset.specs.declared.matrix.Matrix.{Matrix}
 use Rattle.rules.specs.Basics.{given}
 use Rattle.rules.specs.Units.{merged_into, edges_between}
 use Rattle.rules.proofs.Lists.{◌∈◌, any_in, in_any}
@@ -21,7 +22,7 @@ use Rattle.theory.proofs.Neighbours.{SameNeighbours}
 use Rattle.units.specs.Merged.{Merged}
 
 -- an edge from a piece of unit a to a piece of another unit b
-pub record UnitEdge (words units : List ℕ) (n a b : ℕ) : Type 0 where
+pub record UnitEdge (words : Matrix) (units : List ℕ) (n a b : ℕ) : Type 0 where
   pub two : a ≡ b → ⊥
   pub from : ℕ
   pub to : ℕ
@@ -32,7 +33,7 @@ pub record UnitEdge (words units : List ℕ) (n a b : ℕ) : Type 0 where
   pub edge : has_edge words from to ≡ true
 
 -- units are neighbours exactly where there is one
-pub unit_edge : (words units : List ℕ) (n a b : ℕ)
+pub unit_edge : (words : Matrix) (units : List ℕ) (n a b : ℕ)
     → (ltb 0 (edges_between (λ i j. given (has_edge words i j) 1) (unit_at units) n a b) ≡ true) ↔ UnitEdge words units n a b
 unit_edge words units n a b =
     let unit = unit_at units in
@@ -60,7 +61,7 @@ unit_edge words units n a b =
           (in_any _ (in_member unit n u.to_piece u.to_unit) (given_test (has_edge words u.from u.to) ∙ u.edge))),
     )
 
-module _ {words : List ℕ} (units : List ℕ) {n : ℕ} (few : n ≤ 512) (ways : BothWays words) where
+module _ {words : Matrix} (units : List ℕ) {n : ℕ} (few : n ≤ 512) (ways : BothWays words) where
   -- the edge from its other piece
   pub other_way : {a b : ℕ} (u : UnitEdge words units n a b) → has_edge words u.to u.from ≡ true
   other_way u = ways u.to u.from (omega (arith, u.to_piece)) (omega (arith, u.from_piece)) ∙ u.edge
@@ -78,7 +79,7 @@ module _ {words : List ℕ} (units : List ℕ) {n : ℕ} (few : n ≤ 512) (ways
   }
 
   -- merged words join both ways
-  pub merged_ways : {merged : List ℕ} → Merged words units n merged → BothWays merged
+  pub merged_ways : {merged : Matrix} → Merged words units n merged → BothWays merged
   merged_ways m a b l k =
       m.bits a b l k
       ∙ same _ _
@@ -87,7 +88,7 @@ module _ {words : List ℕ} (units : List ℕ) {n : ℕ} (few : n ≤ 512) (ways
       ∙ sym (m.bits b a k l)
 
 -- merged words have the neighbours of the graph of units
-pub unit_neighbours : {conflicts stitches units mergedConflicts mergedStitches vs : List ℕ} {n : ℕ}
+pub unit_neighbours : {conflicts stitches mergedConflicts mergedStitches : Matrix} {units vs : List ℕ} {n : ℕ}
     → Merged conflicts units n mergedConflicts → Merged stitches units n mergedStitches → ((u : ℕ) → u ∈ vs → u < 512)
     → SameNeighbours (unit_graph conflicts stitches units n) (word_graph mergedConflicts mergedStitches) vs
 unit_neighbours {mergedConflicts} {mergedStitches} c s small = record {

@@ -1,5 +1,6 @@
 -- What numbering the units leaves. Assumes nothing: these are definitions.
 use Rattle.std.specs.Prelude.{List, ◌≡◌, ℕ, ◌<◌, length}
+use Rattle.bitset.specs.declared.matrix.Matrix.{Matrix}
 use Rattle.rules.specs.declared.layer.Settings.{Settings}
 use Rattle.rules.specs.declared.layer.Piece.{Piece}
 use Rattle.rules.specs.Basics.{up_to}
@@ -10,7 +11,7 @@ use Rattle.adjacency.specs.Members.{members_of}
 use Rattle.adjacency.specs.UnitGraph.{unit_at}
 
 -- The n pieces have the numbers of their units, which are the components that the words join; the set has the units' numbers.
-pub record Numbered (tieWords : List ℕ) (n : ℕ) (units numberSet : List ℕ) : Type 0 where
+pub record Numbered (tieWords : Matrix) (n : ℕ) (units numberSet : List ℕ) : Type 0 where
   pub whole : length units ≡ n
   pub unit : (i : ℕ) → i < n → unit_at units i ≡ part_of (components (word_graph tieWords tieWords) (up_to n)) i
   pub numbers : members_of numberSet ≡ unit_numbers (unit_at units) n

@@ -13,7 +13,7 @@ use bitset::{BitSet, Matrix};
 fn join_units(merged: &mut Matrix, x: usize, y: usize)
     requires x_bound { x < 512 }
     requires y_bound { y < 512 }
-    ensures { (a b : ℕ) → b < 512 → has_edge merged.new a b ≡ (has_edge merged.old a b || two_units x y a b) }
+    ensures { (a b : ℕ) → has_edge merged.new a b ≡ (has_edge merged.old a b || two_units x y a b) }
 {
     if x != y {
         merged.join(x, y);

@@ -14,8 +14,8 @@ loop-i-init c =
 pub loop-i-preserved : goal.loop-i-preserved
 loop-i-preserved c =
     row_next c.loop-i.invariant c.in-Some.ensures.steps
-    (λ a b h.
-    c.join_units.ensures a b h
+    (λ a b.
+    c.join_units.ensures a b
     ∙ ap₂ (λ (x y : ℕ). has_edge c.loop-i.merged a b || two_units x y a b) c.from.ensures c.from-unit.ensures)
 
 pub returns : goal.returns

@@ -1,26 +1,30 @@
-use mathlib.Core.Path.{◌≡◌, refl}
-use Prim.Native.Nat.{◌+◌, ◌*◌}
-use native.Mathlib.Omega.{arith}
-use Rattle.bitset.specs.Bits.{count_below, member}
+-- `BitSet::len` meets its contract: each word adds its ones. Assumes nothing.
+use Rattle.std.proofs.Common.{◌≡◌, ◌∙◌, ℕ, arith, rules}
+use Rattle.std.specs.List.{sum_by}
+use Rattle.std.proofs.lemmas.Iterator.{YieldsList-from_slice, YieldsList-from_map}
+use Rattle.std.proofs.lemmas.Iterator.Consumers.{YieldsList-at, sum_by_from_yields_List, fits_by_from_yields_list}
+use Rattle.bitset.specs.Bits.{bit, member, count_below}
 use Rattle.bitset.proofs.Counts.{count_le}
-use Rattle.bitset.proofs.Sets.{count_word}
+use Rattle.bitset.proofs.Sets.{count_words}
 use Rattle.bitset.proofs.set.BitSet.len.Goals as goal
 
-pub loop-word-init : goal.loop-word-init
-unfolding count_below
-loop-word-init c = refl
+abbrev bits : ℕ → ℕ
+bits x = count_below 64 (bit x)
 
-pub overflow_add-sum : goal.overflow_add-sum
-overflow_add-sum c =
-    let s = c.self.inside.words in
-    let w = c.loop-word.word-index in
-    omega (arith, count_word s w, count_le (64 * (w + 1)) (member s))
+all : (c : goal.After-map) → sum_by bits c.self.inside.words ≡ count_below 512 (member c.self.inside.words)
+all c = rw c.self.told at (count_words c.self.inside.words)
 
-pub loop-word-preserved : goal.loop-word-preserved
-loop-word-preserved c = omega (arith, count_word c.self.inside.words c.loop-word.word-index)
+pub sum-requires-clause-fits : goal.sum-requires-clause-fits
+sum-requires-clause-fits c =
+    fits_by_from_yields_list bits c.self.inside.words c.map.result _
+    (YieldsList-from_map _ bits (YieldsList-at c.map.ensures.source (YieldsList-from_slice _ c.iter.ensures.rest)) c.map.ensures.closure (λ x r q k. search rules))
+    (omega (arith, all c, count_le 512 (member c.self.inside.words)))
 
 pub returns : goal.returns
 returns c =
-    let e : c.loop-word.word-index ≡ 8 = omega arith in
-    let count = rw (e, c.self.view_is) at c.loop-word.invariant in
-    record { count = count; within = omega (arith, count, count_le 512 (member c.args.self.now)) }
+    let count : c.sum.result ≡ count_below 512 (member c.self.inside.words)
+    = sum_by_from_yields_List bits c.self.inside.words c.map.result _ c.sum.ensures.ran
+    (YieldsList-from_map _ bits (YieldsList-at c.map.ensures.source (YieldsList-from_slice _ c.iter.ensures.rest)) c.map.ensures.closure (λ x r q k. search rules))
+    ∙ all c.before
+    in
+    rw (← c.self.view_is) (record { count = count; within = omega (arith, count, count_le 512 (member c.self.inside.words)) })

@@ -4,6 +4,7 @@ use mathlib.Core.Path.{◌≡◌, refl, ap, ◌∙◌}
 use Rattle.std.proofs.lemmas.List.{get_or_default}
 use Prim.Native.Nat.{ℕ, ◌+◌, ◌≤◌, ◌<◌}
 use lib.ListN.{length, get_or}
+use Rattle.bitset.specs.declared.matrix.Matrix.{Matrix}
 use Rattle.rules.specs.Units.{merged_into}
 use Rattle.adjacency.specs.Members.{members_of}
 use Rattle.adjacency.specs.UnitGraph.{unit_at}
@@ -32,7 +33,7 @@ module _ (turn : In-loop-k) where
       ∙ ap members_of (get_or_default sets unit d [] (omega arith))
       ∙ unit_members (get_or sets unit []) turn.args.units.now (length turn.args.units.now) unit turn.requires.size_bound.1 (λ q. turn.pieces_of_units.ensures.sorted unit q small)
 
-  abbrev entries_of : List ℕ → List ℕ
+  abbrev entries_of : Matrix → List ℕ
   entries_of words = place_entries words turn.loop-k.seats turn.loop-k.earlier pieces
 
   given : Known turn.args.edges.now.conflicts turn.args.edges.now.stitches (length turn.args.units.now) turn.args.order.now (length turn.args.order.now)
