@@ -1,7 +1,7 @@
--- Adjacency words: how they grow, one pair and one row at a time, and what those of a graph without loops say: they are symmetric, they
--- have the graph's edges, and none is in the words of both kinds. Each law is over the test that says whether two numbers are joined.
+-- Adjacency words: how they grow, one pair and one row at a time, and that those of a graph without loops have the graph's edges. Each law is
+-- over the test that says whether two numbers are joined.
 -- Assumes nothing.
-use mathlib.Core.Bool.{Bool, true, false, ◌&&◌, ◌||◌, and-true, and-false, and_comm, and-or_distrib_left, and-or_distrib_right, or_assoc, or-false}
+use mathlib.Core.Bool.{Bool, true, false, ◌&&◌, ◌||◌, and-true, and-false, and-or_distrib_left, and-or_distrib_right, or_assoc, or-false}
 use mathlib.Core.List.{List}
 use mathlib.Core.Logic.{⊎_elim}
 use mathlib.Core.Path.{◌≡◌, refl, sym, ap, ◌∙◌}
@@ -11,17 +11,15 @@ use native.Mathlib.Omega.{arith}
 use lib.Dec.{eqb, ltb}
 use lib.ListN.{length}
 use borrow.Author.Tests.{eq-eqb, ne_eqb, eqb-true, lt-ltb, le-ltb}
-use Rattle.bitset.specs.Bits.{has_edge, no_edge}
+use Rattle.bitset.specs.Edges.{has_edge, NoEdge}
 use Rattle.bitset.specs.declared.matrix.Matrix.{Matrix}
-use Rattle.bitset.proofs.Sets.{no_edge_has}
 use Rattle.rules.specs.declared.layer.Settings.{Settings}
 use Rattle.rules.specs.declared.layer.Piece.{Piece}
 use Rattle.rules.specs.Basics.{given}
 use Rattle.rules.specs.Settings.{piece_at}
-use Rattle.rules.specs.Edges.{graph_of}
 use Rattle.rules.specs.Questions.{Valid}
-use Rattle.adjacency.specs.Adjacency.{conflict_of, stitch_of, tie_of, is_pair, in_row, RowTo, Holds, Adjacency, Ties, BothWays}
-use Rattle.rules.proofs.Edges.{undirected, no_self_conflict, no_self_stitch, no_self_tie}
+use Rattle.adjacency.specs.Adjacency.{conflict_of, stitch_of, tie_of, is_pair, in_row, RowTo, Holds, Adjacency, Ties}
+use Rattle.rules.proofs.Edges.{no_self_conflict, no_self_stitch, no_self_tie}
 use Rattle.rules.proofs.Validity.{valid_sound}
 use Rattle.rules.proofs.Tests.{and_left, and_right, or_either, same, same_where, ltb_next}
 
@@ -94,8 +92,8 @@ module _ (edge : ℕ → ℕ → Bool) (symmetric : (a b : ℕ) → edge a b ≡
 pub record Rows (edge : ℕ → ℕ → Bool) (n : ℕ) (words : Matrix) : Type 0 where
   pub bits : (a b : ℕ) → has_edge words a b ≡ (edge a b && (ltb (min a b) (max a b) && ltb (max a b) n))
 
-pub rows_none : (edge : ℕ → ℕ → Bool) {words : Matrix} → words ≡ no_edge → Rows edge 0 words
-rows_none edge e = record { bits = λ a b. rw (e, le-ltb (max a b) 0 (omega arith), and-false (ltb (min a b) (max a b)), and-false (edge a b)) (no_edge_has a b) }
+pub rows_none : (edge : ℕ → ℕ → Bool) {words : Matrix} → NoEdge words → Rows edge 0 words
+rows_none edge e = record { bits = λ a b. rw (le-ltb (max a b) 0 (omega arith), and-false (ltb (min a b) (max a b)), and-false (edge a b)) (e.none a b) }
 
 -- the pairs with greater number n, and those below
 last_row : (m x n : ℕ) → ((ltb m x && ltb x n) || (ltb m n && eqb x n)) ≡ (ltb m x && ltb x (n + 1))
@@ -148,15 +146,10 @@ module _ (s : Settings) (ps : List Piece) (valid : Valid s ps) where
 
 -- ---- what the words say
 
-module _ (edges : ℕ → ℕ → ℕ) (n : ℕ) (words : Matrix) (holds : Holds edges n words) where
-  pub words_symmetric : ((a b : ℕ) → edges a b ≡ edges b a) → (a b : ℕ) → a < 512 → b < 512 → has_edge words a b ≡ has_edge words b a
-  words_symmetric symmetric a b h k =
-      holds.bits a b ∙ rw (symmetric a b, and_comm (ltb a n) (ltb b n)) (sym (holds.bits b a))
-
 -- the words and the graph have the same edges between numbers below n
-pub words_edges : (joins : ℕ → ℕ → Bool) {n : ℕ} {words : Matrix} → Holds (λ a b. given (joins a b) 1) n words → n ≤ 512
+pub words_edges : (joins : ℕ → ℕ → Bool) {n : ℕ} {words : Matrix} → Holds (λ a b. given (joins a b) 1) n words
     → (a b : ℕ) → a < n → b < n → given (has_edge words a b) 1 ≡ given (joins a b) 1
-words_edges joins {n} {words} holds l a b h k =
+words_edges joins {n} {words} holds a b h k =
     let e : has_edge words a b ≡ joins a b = holds.bits a b ∙ rw (lt-ltb a n h, lt-ltb b n k) (given_test (joins a b)) in
     rw e
 
@@ -166,12 +159,3 @@ pub words_exclusive : {edges others : ℕ → ℕ → ℕ} {n : ℕ} {words othe
 words_exclusive {edges} {others} {n} {words} holds other exclusive a b e =
     let set : (ltb a n && ltb b n && ltb 0 (edges a b)) ≡ true = sym (holds.bits a b) ∙ e in
     other.bits a b ∙ rw (exclusive a b (and_right (ltb a n && ltb b n) (ltb 0 (edges a b)) set)) (and-false (ltb a n && ltb b n))
-
--- ---- the words of a layer
-
-module _ {s : Settings} {ps : List Piece} {n : ℕ} {conflicts stitches : Matrix} (adjacency : Adjacency s ps n conflicts stitches) where
-  pub conflicts_both_ways : BothWays conflicts
-  conflicts_both_ways = words_symmetric (graph_of s ps).conflicts n conflicts adjacency.conflicts (undirected s ps).conflicts
-
-  pub stitches_both_ways : BothWays stitches
-  stitches_both_ways = words_symmetric (graph_of s ps).stitches n stitches adjacency.stitches (undirected s ps).stitches

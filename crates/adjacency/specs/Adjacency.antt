@@ -1,7 +1,7 @@
 -- What adjacency words hold. A pair of pieces is one of row j where j is its greater number, so that each pair is one of one row.
 -- Assumes nothing: these are definitions.
-use Rattle.std.specs.Prelude.{Bool, ◌&&◌, ◌||◌, List, ◌≡◌, ℕ, ◌<◌, min, max, eqb, ltb}
-use Rattle.bitset.specs.Bits.{has_edge}
+use Rattle.std.specs.Prelude.{Bool, ◌&&◌, ◌||◌, List, ◌≡◌, ℕ, min, max, eqb, ltb}
+use Rattle.bitset.specs.Edges.{has_edge}
 use Rattle.bitset.specs.declared.matrix.Matrix.{Matrix}
 use Rattle.rules.specs.declared.layer.Settings.{Settings}
 use Rattle.rules.specs.declared.layer.Piece.{Piece}
@@ -44,10 +44,6 @@ pub record Adjacency (s : Settings) (ps : List Piece) (n : ℕ) (conflictWords s
 -- the words of ties
 abbrev pub Ties : Settings → List Piece → ℕ → Matrix → Type 0
 Ties s ps n words = Holds (tie_graph s ps).stitches n words
-
--- the words join two numbers both ways or not at all
-abbrev pub BothWays : Matrix → Type 0
-BothWays words = (a b : ℕ) → a < 512 → b < 512 → has_edge words a b ≡ has_edge words b a
 
 -- the graph of adjacency words: two vertices have an edge of a kind where the words of that kind join them
 abbrev pub word_graph : Matrix → Matrix → Graph

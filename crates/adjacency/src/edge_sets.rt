@@ -1,7 +1,7 @@
 // The adjacency words of a judged layer: a bit for each pair of pieces, in words for each kind of edge and for ties. Each unordered pair
 // is met once, from its greater number, and both of its bits are set.
 ghost use Rattle.std.specs.Prelude.{◌&&◌, ◌||◌, ◌≡◌, ℕ, ◌<◌, length};
-ghost use Rattle.bitset.specs.Bits.{has_edge, no_edge};
+ghost use Rattle.bitset.specs.Edges.{has_edge, NoEdge};
 ghost use Rattle.adjacency.specs.Adjacency.{conflict_of, stitch_of, tie_of, is_pair, RowTo, Adjacency, Ties};
 ghost use Rattle.adjacency.specs.Kinds.{is_conflict, is_stitch, is_tie};
 
@@ -19,7 +19,8 @@ pub struct EdgeSets {
 impl EdgeSets {
     // No edge of either kind.
     pub fn empty() -> EdgeSets
-        ensures { result ≡ record { conflicts = no_edge; stitches = no_edge } }
+        ensures conflicts { NoEdge result.conflicts }
+        ensures stitches { NoEdge result.stitches }
     {
         EdgeSets {
             conflicts: Matrix::empty(),

@@ -4,7 +4,7 @@ use mathlib.Core.Path.{◌≡◌, refl}
 use mathlib.Core.Bool.{true, false}
 use mathlib.Core.List.{[], ◌∷◌}
 use Prim.Native.Nat.{◌^◌}
-use Rattle.bitset.specs.Bits.{bit, member, has_edge, count_below}
+use Rattle.bitset.specs.Bits.{bit, member, count_below}
 
 bit_2_of_5 : bit 5 2 ≡ true
 unfolding bit
@@ -25,10 +25,6 @@ in_second_word = refl
 past_the_end : member (1 ∷ []) 64 ≡ false
 unfolding member bit
 past_the_end = refl
-
-row_1_has_2 : has_edge ([] ∷ (4 ∷ []) ∷ []) 1 2 ≡ true
-unfolding member bit
-row_1_has_2 = refl
 
 three_of_11 : count_below 64 (bit 11) ≡ 3
 unfolding count_below bit

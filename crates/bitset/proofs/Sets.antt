@@ -1,9 +1,9 @@
--- Laws of `member` and `has_edge`: a word of a set, a set after one of its words is stored, sets of none and of the numbers
--- below a bound, how many members there are, and a matrix with no edge. A member is a word and a place there, so each law of
+-- Laws of `member`: a word of a set, a set after one of its words is stored, sets of none and of the numbers below a bound, how
+-- many members there are, and the rows of a matrix with no edge and of one in which two numbers were joined. A member is a word and a place there, so each law of
 -- sets is one on a word's bits, and the place is found by arithmetic.
 -- Assumes nothing.
-use mathlib.Core.Path.{◌≡◌, refl, sym, ap₂, ◌∙◌}
-use mathlib.Core.Bool.{Bool, false, not, ◌&&◌, ◌||◌, or-false, and-true}
+use mathlib.Core.Path.{◌≡◌, refl, sym, ap, ap₂, ◌∙◌}
+use mathlib.Core.Bool.{Bool, false, not, ◌&&◌, ◌||◌, or-false, and-true, and_comm, or_assoc, or_comm}
 use mathlib.Core.List.{List, [], ◌∷◌, ◌++◌}
 use Prim.Native.Nat.{ℕ, suc, ◌+◌, ◌-◌, ◌*◌, ◌/◌, ◌%◌, ◌^◌, ◌≤◌, ◌<◌}
 use native.Mathlib.Decide.{ℕ_discrete, dec_lt}
@@ -15,8 +15,8 @@ use lib.Bits.{bit_and, bit_or}
 use borrow.Author.Tests.{eq-eqb, ne_eqb, lt-ltb, le-ltb}
 use Rattle.std.specs.List.{sum_by}
 use Rattle.std.proofs.lemmas.List.Sums.{sum_by-cons}
-use Rattle.std.proofs.lemmas.List.{get_or_append_left, get_or-append_right, get_or-drop}
-use Rattle.bitset.specs.Bits.{bit, member, has_edge, no_edge, count_below, LowestSet, Dropped}
+use Rattle.std.proofs.lemmas.List.{length-set, get_or_default, get_or_append_left, get_or-append_right, get_or-drop}
+use Rattle.bitset.specs.Bits.{bit, member, count_below, BothWays, LowestSet, Dropped}
 use Rattle.bitset.proofs.Counts.{count_add, count_ext}
 use Rattle.bitset.proofs.Words.{bit-and, bit-or, bit_not, bit_shl, bit_ones, bit_of_zero}
 
@@ -173,12 +173,36 @@ module _ (s : List ℕ) (w p j : ℕ) (l : w < length s) (h : p < 64) (e : 64 * 
   pub member_drop : (v : ℕ) → Dropped (get_or s w 0) v → LowestSet (get_or s w 0) p → (k : ℕ) → member (set s w v) k ≡ (member s k && not (eqb k j))
   member_drop v dropped low = member_store (λ a b. a && not b) and-true v (λ i m. dropped.bits p low i)
 
--- ---- a matrix with no edge
+-- ---- rows with no member
 
-pub no_edge_has : (a b : ℕ) → has_edge no_edge a b ≡ false
-unfolding no_edge
-no_edge_has a b = go (dec_lt a 512)
+pub row_none : {row : List ℕ} → row ≡ replicate 8 0 → (a b : ℕ) → member (get_or (replicate 512 row) a []) b ≡ false
+row_none {row} e a b = go (dec_lt a 512)
   where
-    go : Dec (a < 512) → has_edge no_edge a b ≡ false
-    go (yes l) = rw (get_or-replicate {A = List ℕ} 512 a (replicate 8 0) [] l) (member_none 8 b)
-    go (no m) = rw (get_or-eq_default {A = List ℕ} no_edge [] {n = a} (omega (arith, length-replicate {A = List ℕ} 512 (replicate 8 0)))) (member_none 0 b)
+    go : Dec (a < 512) → member (get_or (replicate 512 row) a []) b ≡ false
+    go (yes l) = rw (get_or-replicate {A = List ℕ} 512 a row [] l, e) (member_none 8 b)
+    go (no m) = rw (get_or-eq_default {A = List ℕ} (replicate 512 row) [] {n = a} (omega (arith, length-replicate {A = List ℕ} 512 row))) (member_none 0 b)
+
+-- ---- rows after j was put into row i, and then i into row j
+
+row_put : (rows : List (List ℕ)) (i j : ℕ) (row d : List ℕ) → i < length rows → ((k : ℕ) → member row k ≡ (member (get_or rows i d) k || eqb k j))
+    → (a b : ℕ) → member (get_or (set rows i row) a []) b ≡ (member (get_or rows a []) b || (eqb a i && eqb b j))
+row_put rows i j row d l put a b = go (ℕ_discrete a i)
+  where
+    go : Dec (a ≡ i) → member (get_or (set rows i row) a []) b ≡ (member (get_or rows a []) b || (eqb a i && eqb b j))
+    go (yes p) = rw (p, get_or-set_same rows i row [] l, eq-eqb i i refl, get_or_default rows i [] d l) (put b)
+    go (no n) = rw (get_or-set_other rows i a row [] n, ne_eqb a i n) (sym (or-false (member (get_or rows a []) b)))
+
+pub join_ways : (rows : List (List ℕ)) (i j : ℕ) (row row' d d' : List ℕ) → i < length rows → j < length rows → BothWays rows
+    → ((k : ℕ) → member row k ≡ (member (get_or rows i d) k || eqb k j))
+    → ((k : ℕ) → member row' k ≡ (member (get_or (set rows i row) j d') k || eqb k i))
+    → BothWays (set (set rows i row) j row')
+join_ways rows i j row row' d d' l m ways put put' a b =
+    here a b
+    ∙ rw (ways a b, and_comm (eqb a i) (eqb b j), and_comm (eqb a j) (eqb b i))
+    (or_assoc (member (get_or rows b []) a) (eqb b j && eqb a i) (eqb b i && eqb a j)
+    ∙ ap (λ (x : Bool). member (get_or rows b []) a || x) (or_comm (eqb b j && eqb a i) (eqb b i && eqb a j))
+    ∙ sym (or_assoc (member (get_or rows b []) a) (eqb b i && eqb a j) (eqb b j && eqb a i)))
+    ∙ sym (here b a)
+  where
+    here : (a b : ℕ) → member (get_or (set (set rows i row) j row') a []) b ≡ ((member (get_or rows a []) b || (eqb a i && eqb b j)) || (eqb a j && eqb b i))
+    here a b = rw (row_put (set rows i row) j i row' d' (omega (arith, length-set rows i row)) put' a b, row_put rows i j row d l put a b)

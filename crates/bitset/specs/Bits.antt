@@ -1,5 +1,5 @@
--- What the contracts say: the bits of a word, the members of a set held in words of 64 bits, the edges of a graph held as a
--- matrix of such sets, and how many numbers below a bound pass a test. Bits are read by division and remainder, so that
+-- What the contracts say: the bits of a word, the members of a set held in words of 64 bits, what holds of the rows of each
+-- matrix, and how many numbers below a bound pass a test. Bits are read by division and remainder, so that
 -- arithmetic settles most of what is asked of them.
 -- Assumes nothing.
 use Rattle.std.specs.Prelude.{ℕ, zero, suc, ◌+◌, ◌/◌, ◌%◌, ◌^◌, ◌≤◌, ◌<◌, ◌≡◌, Bool, true, false, not, ◌&&◌, ◌||◌, List, [], eqb, get_or, replicate, Option, MatchOption}
@@ -13,21 +13,9 @@ bit x j = eqb (x / 2 ^ j % 2) 1
 unfoldable pub member : List ℕ → ℕ → Bool
 member s j = bit (get_or s (j / 64) 0) (j % 64)
 
--- whether j is a member of row i of the matrix adj
-abbrev pub has_edge : List (List ℕ) → ℕ → ℕ → Bool
-has_edge adj i j = member (get_or adj i []) j
-
--- the matrix with no edge
-unfoldable pub no_edge : List (List ℕ)
-no_edge = replicate 512 (replicate 8 0)
-
--- whether j is in row i of the matrix and in the set
-abbrev pub both : List (List ℕ) → ℕ → List ℕ → ℕ → Bool
-both adj i s j = has_edge adj i j && member s j
-
--- whether j is in row i of either matrix and in the set s, and not in the set t
-abbrev pub rows_without : List (List ℕ) → List (List ℕ) → ℕ → List ℕ → List ℕ → ℕ → Bool
-rows_without a b i s t j = (has_edge a i j || has_edge b i j) && member s j && not (member t j)
+-- rows in which two numbers are members of each other's row, or neither is
+abbrev pub BothWays : List (List ℕ) → Type 0
+BothWays rows = (a b : ℕ) → member (get_or rows a []) b ≡ member (get_or rows b []) a
 
 -- how many k below n pass the test f
 unfoldable pub count_below : ℕ → (ℕ → Bool) → ℕ

@@ -2,8 +2,8 @@
 // adjacency of a graph. A bit set is a set of vertices, and a row is a vertex's neighbours. What builds adjacency, peels
 // vertices of low degree, finds components and picks masks stands on this crate.
 //
-// Contracts see a set as the list of its words and a matrix as the list of its rows, and say of each number that can be a
-// member whether it is one afterwards, so no caller looks at words.
+// Contracts see a set as the list of its words, and say of each number that can be a member whether it is one afterwards, so
+// no caller looks at words. Of a matrix they say which numbers are joined.
 //
 // A loop over a set is `for v in set.members()`, and over a row `for v in matrix.neighbours_in(i, &set).members()`. Its
 // invariant reads what is left as `l.v-iterator`, which begins as the set and ends with no member, so the loop needs no
@@ -12,7 +12,7 @@
 #![tactic(auto)]
 
 ghost use Rattle.std.specs.Prelude.{◌≡◌, ◌&&◌, ◌||◌, not, false, ℕ, ◌<◌, ◌≤◌, eqb, ltb};
-ghost use Rattle.bitset.specs.Bits.{bit, member, has_edge, count_below, Empty, LowestSet, Dropped, Lowest, WithMask};
+ghost use Rattle.bitset.specs.Bits.{bit, member, count_below, Empty, LowestSet, Dropped, Lowest, WithMask};
 
 pub use matrix::Matrix;
 pub use set::{BitSet, Members};

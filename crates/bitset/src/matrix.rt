@@ -1,28 +1,24 @@
 // Square bit matrices of 512 rows, each row a set.
 
-ghost use Rattle.std.specs.Prelude.{◌≡◌, ◌&&◌, ◌||◌, List, ℕ, ◌<◌, eqb};
-ghost use Rattle.bitset.specs.Bits.{member, has_edge, no_edge, both, rows_without, Size, Least};
+ghost use Rattle.std.specs.Prelude.{◌≡◌, ◌&&◌, ◌||◌, ℕ, ◌<◌, eqb};
+ghost use Rattle.bitset.specs.Bits.{member, Size, Least, BothWays};
 
 use crate::set::BitSet;
-use std::marker::Model;
 
-// The adjacency of a graph of at most 512 vertices: j is in row i, and i in row j, where i and j are joined.
+// The adjacency of a graph of at most 512 vertices: j is in row i, and i in row j, where i and j are joined. A Model would
+// keep that fact to its methods; as a ghost field, a proof has it of each matrix, and clauses see no row but by `Edges`.
 #[derive(Drop)]
 pub struct Matrix {
     rows: [BitSet; 512],
-}
-
-impl Model for Matrix {
-    ghost Value = { List (List ℕ) };
-
-    ghost view = { λ m. m.rows };
+    pub ghost both_ways: { BothWays rows },
 }
 
 impl Matrix {
+    ghost use Rattle.bitset.specs.Edges.{has_edge, both, rows_without, NoEdge};
+
     // The graph with no edge.
-    #[tactic(auto, unfolding(crate::specs::Bits::no_edge))]
     pub fn empty() -> Matrix
-        ensures { result ≡ no_edge }
+        ensures { NoEdge result }
     {
         Matrix {
             rows: [BitSet::empty(); 512],
@@ -31,7 +27,7 @@ impl Matrix {
 
     // Takes all edges out.
     pub fn clear(&mut self)
-        ensures { self.new ≡ no_edge }
+        ensures { NoEdge self.new }
     {
         self.rows.fill(BitSet::empty());
     }
@@ -51,8 +47,9 @@ impl Matrix {
         requires j_bound { j < 512 }
         ensures { (a b : ℕ) → has_edge self.new a b ≡ (has_edge self.old a b || (eqb a i && eqb b j) || (eqb a j && eqb b i)) }
     {
-        self.rows[i].put(j);
-        self.rows[j].put(i);
+        let rows = &mut self.rows;
+        rows[i].put(j);
+        rows[j].put(i);
     }
 
     // The neighbours of i that are in the set.

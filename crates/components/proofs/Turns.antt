@@ -1,32 +1,32 @@
 -- The loop on bit sets: how it begins, one turn, and what it comes to. A vertex whose row was looked at is inside and does not wait; each turn
 -- makes one more of them, so there are at most 512 turns. Assumes nothing.
 use mathlib.Core.Bool.{Bool, true, false, not, ◌&&◌, ◌||◌}
-use mathlib.Core.List.{List, ◌∷◌}
+use mathlib.Core.List.{List}
 use mathlib.Core.Logic.{◌↔◌, ◌⊎◌}
 use mathlib.Core.Path.{◌≡◌, refl, sym, subst, ◌∙◌}
 use Prim.Native.Nat.{ℕ, suc, ◌<◌}
 use native.Mathlib.Omega.{arith}
 use lib.Dec.{eqb}
 use borrow.Author.Tests.{eqb-true, eq-eqb, not-true}
-use Rattle.bitset.specs.Bits.{member, has_edge, rows_without, count_below, Taken, Empty}
+use Rattle.bitset.specs.Bits.{member, count_below, Taken, Empty}
+use Rattle.bitset.specs.Edges.{has_edge, rows_without}
 use Rattle.bitset.specs.declared.matrix.Matrix.{Matrix}
 use Rattle.bitset.proofs.Counts.{count_ext, count_in}
 use Rattle.rules.specs.Basics.{without}
 use Rattle.rules.specs.Edges.{joined}
 use Rattle.rules.proofs.Lists.{◌∈◌}
 use Rattle.rules.proofs.Tests.{by_test, clash, both}
-use Rattle.adjacency.specs.Adjacency.{word_graph, BothWays}
+use Rattle.adjacency.specs.Adjacency.{word_graph}
 use Rattle.adjacency.specs.Members.{members_of}
 use Rattle.adjacency.proofs.MemberLaws.{in_members, members_out, members_either, members_kept}
 use Rattle.theory.proofs.Components.{Component}
-use Rattle.theory.proofs.Neighbours.{SameJoined, joined_same, component_of_same}
 use Rattle.components.specs.Component.{IsComponent}
-use Rattle.components.proofs.BoundedGraph.{bounded_graph, bounded_symmetric, bounded_joined, bounded_same}
+use Rattle.components.proofs.WordGraph.{word_symmetric, word_joined}
 use Rattle.components.proofs.Frontier.{Grown, grown_one, grown_more, grown_component, component_first}
 
 -- the bit sets inside and frontier, among those left
 abbrev pub GrownSets : Matrix → Matrix → List ℕ → ℕ → List ℕ → List ℕ → Type 0
-GrownSets conflicts stitches left v inside frontier = Grown (bounded_graph conflicts stitches) (members_of left) (members_of inside) (members_of frontier) v
+GrownSets conflicts stitches left v inside frontier = Grown (word_graph conflicts stitches) (members_of left) (members_of inside) (members_of frontier) v
 
 -- ---- v alone
 
@@ -36,7 +36,7 @@ module _ (none one : List ℕ) (v : ℕ) (empty : Empty none) (put : (k : ℕ) �
 
   pub start_grown : (conflicts stitches : Matrix) (left : List ℕ) → v < 512 → member left v ≡ true → GrownSets conflicts stitches left v one one
   start_grown conflicts stitches left l m =
-      grown_one (bounded_graph conflicts stitches) ((in_members left v).1 (l, m))
+      grown_one (word_graph conflicts stitches) ((in_members left v).1 (l, m))
       (λ u. (
         λ i. eqb-true u v (sym (alone u) ∙ ((in_members one u).0 i).1),
         λ e. (in_members one u).1 (omega arith, alone u ∙ eq-eqb u v e),
@@ -82,15 +82,15 @@ module _ {conflicts stitches : Matrix} {left inside frontier waiting new insideN
       let (j, m) = both near (member left k) a in
       (j, m, not-true (member inside k) o)
 
-  neighbours : (w : ℕ) → (w ∈ members_of new) ↔ ((w ∈ members_of left) × (joined (bounded_graph conflicts stitches) u w ≡ true) × (w ∈ members_of inside → ⊥))
+  neighbours : (w : ℕ) → (w ∈ members_of new) ↔ ((w ∈ members_of left) × (joined (word_graph conflicts stitches) u w ≡ true) × (w ∈ members_of inside → ⊥))
   neighbours w = (
     λ m.
         let (h, e) = (in_members new w).0 m in
         let (j, n, o) = new_facts w h e in
-        ((in_members left w).1 (h, n), bounded_joined conflicts stitches u w turn.taken.small h ∙ j, λ i. clash ((in_members inside w).0 i).1 o),
+        ((in_members left w).1 (h, n), word_joined conflicts stitches u w ∙ j, λ i. clash ((in_members inside w).0 i).1 o),
     λ (m, j, o).
         let (h, n) = (in_members left w).0 m in
-        (in_members new w).1 (h, turn.news w h ∙ rw (sym (bounded_joined conflicts stitches u w turn.taken.small h) ∙ j, n, outside w h o)),
+        (in_members new w).1 (h, turn.news w h ∙ rw (sym (word_joined conflicts stitches u w) ∙ j, n, outside w h o)),
   )
     where
       outside : (k : ℕ) → k < 512 → (k ∈ members_of inside → ⊥) → member inside k ≡ false
@@ -100,9 +100,9 @@ module _ {conflicts stitches : Matrix} {left inside frontier waiting new insideN
   waits_on w =
       subst (λ xs. (w ∈ members_of frontierNow) ↔ ((w ∈ xs) ⊎ (w ∈ members_of new))) (members_out frontier waiting u turn.taken.out) (members_either waiting new frontierNow turn.wait w)
 
-  pub turn_grown : BothWays conflicts → BothWays stitches → GrownSets conflicts stitches left v insideNow frontierNow
-  turn_grown c s =
-      grown_more (bounded_symmetric conflicts stitches c s) old ((in_members frontier u).1 (turn.taken.small, here_now)) neighbours (members_either inside new insideNow turn.grow) waits_on
+  pub turn_grown : GrownSets conflicts stitches left v insideNow frontierNow
+  turn_grown =
+      grown_more (word_symmetric conflicts stitches) old ((in_members frontier u).1 (turn.taken.small, here_now)) neighbours (members_either inside new insideNow turn.grow) waits_on
 
   pub turn_count : count_below 512 (looked insideNow frontierNow) ≡ suc (count_below 512 (looked inside frontier))
   turn_count =
@@ -118,20 +118,17 @@ module _ {conflicts stitches : Matrix} {left inside frontier waiting new insideN
 
 -- ---- none waits
 
-module _ (conflicts stitches : Matrix) (left : List ℕ) (v : ℕ) (inside frontier : List ℕ) (c : BothWays conflicts) (s : BothWays stitches) (none : (k : ℕ) → k < 512 → member frontier k ≡ false)
+module _ (conflicts stitches : Matrix) (left : List ℕ) (v : ℕ) (inside frontier : List ℕ) (none : (k : ℕ) → k < 512 → member frontier k ≡ false)
     (grown : GrownSets conflicts stitches left v inside frontier) where
-  whole : Component (bounded_graph conflicts stitches) (members_of left) (members_of inside)
+  whole : Component (word_graph conflicts stitches) (members_of left) (members_of inside)
   whole =
-      grown_component (bounded_symmetric conflicts stitches c s) grown
+      grown_component (word_symmetric conflicts stitches) grown
       (λ k m. let (h, e) = (in_members frontier k).0 m in clash e (none k h))
       (members_kept left inside grown.within)
 
-  same_below : (after : List ℕ) → members_of left ≡ v ∷ after → SameJoined (word_graph conflicts stitches) (bounded_graph conflicts stitches) (v ∷ after)
-  same_below after e = joined_same (bounded_same conflicts stitches (λ u m. ((in_members left u).0 (subst (λ xs. u ∈ xs) (sym e) m)).0))
-
   pub grown_done : IsComponent conflicts stitches left v inside
   grown_done = record {
-    component = λ after e. component_first (bounded_symmetric conflicts stitches c s) whole grown.begun after e ∙ sym (component_of_same v after (same_below after e));
+    component = component_first (word_symmetric conflicts stitches) whole grown.begun;
     within = λ k h e. ((in_members left k).0 (grown.within k ((in_members inside k).1 (h, e)))).1;
     first = ((in_members inside v).0 grown.begun).1;
   }

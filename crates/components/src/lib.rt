@@ -4,7 +4,6 @@
 
 ghost use Rattle.std.specs.Prelude.{true, ◌≡◌, ◌<◌};
 ghost use Rattle.bitset.specs.Bits.{member};
-ghost use Rattle.adjacency.specs.Adjacency.{BothWays};
 ghost use Rattle.components.specs.Component.{IsComponent};
 
 use bitset::{BitSet, Matrix};
@@ -13,8 +12,6 @@ use bitset::{BitSet, Matrix};
 pub fn component(conflicts: &Matrix, stitches: &Matrix, left: &BitSet, v: usize) -> BitSet
     requires v_bound { v < 512 }
     requires v_value { member left.now v ≡ true }
-    requires both_ways { BothWays conflicts.now }
-    requires both_ways_2 { BothWays stitches.now }
     ensures { IsComponent conflicts.now stitches.now left.now v result }
 {
     let mut inside = BitSet::empty();

@@ -8,7 +8,6 @@ use Rattle.rules.specs.Components.{components}
 use Rattle.rules.specs.Decomposition.{put_masks, Reached, search_all}
 use Rattle.adjacency.specs.Members.{members_of}
 use Rattle.adjacency.specs.UnitGraph.{unit_graph, unit_at, fixed_at}
-use Rattle.adjacency.specs.Adjacency.{BothWays}
 use Rattle.places.specs.LaidOut.{Exclusive}
 use Rattle.search.specs.declared.limits.Limits.{Limits}
 use Rattle.search.specs.declared.limits.Progress.{Progress}
@@ -27,8 +26,6 @@ graph_of u = unit_graph u.edges.now.conflicts u.edges.now.stitches u.units.now (
 -- the edges of pieces, and their units
 pub record Sound (u : UnitGraph) : Type 0 where
   pub exclusive : Exclusive u.edges.now.conflicts u.edges.now.stitches
-  pub conflicts : BothWays u.edges.now.conflicts
-  pub stitches : BothWays u.edges.now.stitches
   pub few : length u.units.now ≤ 512
   pub small : (i : ℕ) → i < length u.units.now → unit_at u.units.now i < 512
 

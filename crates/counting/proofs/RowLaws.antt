@@ -7,7 +7,8 @@ use Prim.Native.Nat.{ℕ, ◌+◌, ◌≤◌, ◌<◌}
 use native.Mathlib.Omega.{arith}
 use lib.Dec.{eqb, ltb}
 use borrow.Author.Tests.{eq-eqb, ne_eqb, ltb-true, lt-ltb}
-use Rattle.bitset.specs.Bits.{member, has_edge, both, Taken}
+use Rattle.bitset.specs.Bits.{member, Taken}
+use Rattle.bitset.specs.Edges.{has_edge, both}
 use Rattle.bitset.specs.declared.matrix.Matrix.{Matrix}
 use Rattle.rules.specs.declared.layer.Edge.{Edge}
 use Rattle.rules.specs.Basics.{given, sum_to}
@@ -15,7 +16,6 @@ use Rattle.rules.specs.Score.{mask_of}
 use Rattle.rules.proofs.ScoreBounds.{given_le}
 use Rattle.rules.proofs.Sums.{sum_ext, sum_le, sum_less, sum_none}
 use Rattle.rules.proofs.Tests.{and_left, and_right}
-use Rattle.adjacency.specs.Adjacency.{BothWays}
 use Rattle.counting.specs.Counted.{edge_counts, edge_in}
 
 -- two numbers count for one edge at most
@@ -43,16 +43,16 @@ module _ (edge : Edge) (words : Matrix) (masks : List ℕ) (j : ℕ) where
     pub lesser : (u : ℕ) → u < 512 → member rest u ≡ true → u < j
     pub sum : count + sum_to (left rest) j ≡ sum_to row j
 
-  pub counting_start : BothWays words → j < 512 → (below : List ℕ) {rest : List ℕ} → ((k : ℕ) → member below k ≡ ltb k j)
+  pub counting_start : (below : List ℕ) {rest : List ℕ} → ((k : ℕ) → member below k ≡ ltb k j)
       → ((k : ℕ) → member rest k ≡ both words j below k) → Counting rest 0
-  counting_start symmetric small below {rest} b e = record {
+  counting_start below {rest} b e = record {
     lesser = λ u h m. ltb-true u j (sym (b u) ∙ and_right (has_edge words j u) (member below u) (sym (e u) ∙ m));
     sum = omega (arith, sum_ext {f = left rest} {g = row} j (λ u l. same u l));
   }
     where
       same : (u : ℕ) → u < j → left rest u ≡ row u
       same u l =
-          rw (e u, b u, lt-ltb u j l, and-true, symmetric j u small (omega arith))
+          rw (e u, b u, lt-ltb u j l, and-true, words.both_ways j u)
           (given_swap (has_edge words u j) (edge_counts edge (mask_of masks u) (mask_of masks j)))
 
   -- the count stays small

@@ -2,7 +2,7 @@
 use mathlib.Core.Bool.{false, not, ◌&&◌, and-true, and-false}
 use mathlib.Core.List.{List}
 use mathlib.Core.Path.{◌≡◌, refl, ap}
-use Prim.Native.Nat.{ℕ, ◌≤◌}
+use Prim.Native.Nat.{ℕ}
 use native.Mathlib.Omega.{arith}
 use lib.Dec.{eqb}
 use borrow.Author.Tests.{eq-eqb, ne_eqb}
@@ -35,15 +35,15 @@ two_other {a} {b} h = rw (ne_eqb a b h) (and-true (not (eqb a unset) && not (eqb
 
 -- ---- words and graph
 
-pub words_score : (weight : ℕ) (s : Settings) (ps : List Piece) (n : ℕ) (conflicts stitches : Matrix) (masks : List ℕ) → Adjacency s ps n conflicts stitches → n ≤ 512
+pub words_score : (weight : ℕ) (s : Settings) (ps : List Piece) (n : ℕ) (conflicts stitches : Matrix) (masks : List ℕ) → Adjacency s ps n conflicts stitches
     → score_of weight (word_graph conflicts stitches) masks n ≡ score_of weight (graph_of s ps) masks n
 unfolding score_of conflicts_of stitches_of
-words_score weight s ps n conflicts stitches masks adjacency l = rw (same-conflicts, same_stitches)
+words_score weight s ps n conflicts stitches masks adjacency = rw (same-conflicts, same_stitches)
   where
     same-conflicts : conflicts_of (word_graph conflicts stitches) masks n ≡ conflicts_of (graph_of s ps) masks n
     same-conflicts =
-        pairs_ext n λ u v h k. ap (given (together masks u v)) (words_edges (λ a b. conflict_edge s (piece_at ps a) (piece_at ps b)) adjacency.conflicts l u v (omega arith) k)
+        pairs_ext n λ u v h k. ap (given (together masks u v)) (words_edges (λ a b. conflict_edge s (piece_at ps a) (piece_at ps b)) adjacency.conflicts u v (omega arith) k)
 
     same_stitches : stitches_of (word_graph conflicts stitches) masks n ≡ stitches_of (graph_of s ps) masks n
     same_stitches =
-        pairs_ext n λ u v h k. ap (given (apart masks u v)) (words_edges (λ a b. stitch_edge s (piece_at ps a) (piece_at ps b)) adjacency.stitches l u v (omega arith) k)
+        pairs_ext n λ u v h k. ap (given (apart masks u v)) (words_edges (λ a b. stitch_edge s (piece_at ps a) (piece_at ps b)) adjacency.stitches u v (omega arith) k)

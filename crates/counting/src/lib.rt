@@ -6,7 +6,7 @@ ghost use Rattle.std.specs.Prelude.{◌≡◌, ◌<◌, ◌≤◌, length};
 ghost use Rattle.rules.specs.declared.layer.Edge.{Edge};
 ghost use Rattle.rules.specs.Basics.{given, sum_to};
 ghost use Rattle.rules.specs.Score.{score_of, cost_of};
-ghost use Rattle.adjacency.specs.Adjacency.{BothWays, word_graph};
+ghost use Rattle.adjacency.specs.Adjacency.{word_graph};
 ghost use Rattle.counting.specs.Counted.{one_mask, two_masks, edge_counts, edge_in};
 
 use adjacency::EdgeSets;
@@ -44,7 +44,6 @@ pub fn counts(edge: Edge, a: u8, b: u8) -> bool
 fn count_edges(edge: Edge, words: &Matrix, masks: &[u8], j: usize) -> u32
     requires j_bound { j < 512 }
     requires j_in_bounds { j < length masks.now }
-    requires both_ways { BothWays words.now }
     ensures { result ≡ sum_to (λ u. edge_in edge words.now masks.now u j) j }
 {
     let mut count = 0;
@@ -70,8 +69,6 @@ pub fn cost_of(weight: u32, conflicts: u32, stitches: u32) -> u32
 pub fn score_edges(weight: u32, edges: &EdgeSets, masks: &[u8]) -> Score
     requires weight_bound { weight ≤ 1000 }
     requires masks_bound { length masks.now ≤ 512 }
-    requires both_ways { BothWays edges.now.conflicts }
-    requires both_ways_2 { BothWays edges.now.stitches }
     ensures { result ≡ score_of weight (word_graph edges.now.conflicts edges.now.stitches) masks.now (length masks.now) }
 {
     let mut conflicts = 0;

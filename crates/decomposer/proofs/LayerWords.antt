@@ -2,7 +2,7 @@
 -- Assumes nothing.
 use mathlib.Core.List.{List}
 use mathlib.Core.Path.{sym, ◌∙◌}
-use Prim.Native.Nat.{ℕ, ◌≤◌}
+use Prim.Native.Nat.{ℕ}
 use Rattle.bitset.specs.declared.matrix.Matrix.{Matrix}
 use Rattle.rules.specs.declared.layer.Settings.{Settings}
 use Rattle.rules.specs.declared.layer.Piece.{Piece}
@@ -26,8 +26,8 @@ module _ {s : Settings} {ps : List Piece} {n : ℕ} {conflicts stitches : Matrix
       given_test (stitch_edge s p q)
       ∙ by_test (stitch_edge s p q) (λ f. absurd (one_kind s p q (sym (given_test (conflict_edge s p q)) ∙ e) f)) (λ f. f)
 
-  pub layer_edges : n ≤ 512 → SameEdges (graph_of s ps) (word_graph conflicts stitches) (up_to n)
-  layer_edges l = record {
-    conflicts = λ u v m k. sym (words_edges (λ a b. conflict_edge s (piece_at ps a) (piece_at ps b)) adjacency.conflicts l u v ((in_up_to n u).0 m) ((in_up_to n v).0 k));
-    stitches = λ u v m k. sym (words_edges (λ a b. stitch_edge s (piece_at ps a) (piece_at ps b)) adjacency.stitches l u v ((in_up_to n u).0 m) ((in_up_to n v).0 k));
+  pub layer_edges : SameEdges (graph_of s ps) (word_graph conflicts stitches) (up_to n)
+  layer_edges = record {
+    conflicts = λ u v m k. sym (words_edges (λ a b. conflict_edge s (piece_at ps a) (piece_at ps b)) adjacency.conflicts u v ((in_up_to n u).0 m) ((in_up_to n v).0 k));
+    stitches = λ u v m k. sym (words_edges (λ a b. stitch_edge s (piece_at ps a) (piece_at ps b)) adjacency.stitches u v ((in_up_to n u).0 m) ((in_up_to n v).0 k));
   }

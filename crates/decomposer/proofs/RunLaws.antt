@@ -45,7 +45,6 @@ use Rattle.theory.proofs.SameEdges.{SameEdges, decompose_same, decompose_fixed}
 use Rattle.theory.proofs.Demand3.{demand3}
 use Rattle.decomposer.specs.declared.stages.Searched.{Searched}
 use Rattle.decomposer.specs.Stages.{HasPlaces, HasFixed, reached_of, Decomposed}
-use Rattle.adjacency.proofs.AdjacencyLaws.{conflicts_both_ways, stitches_both_ways}
 use Rattle.decomposer.proofs.LayerWords.{one_kind_each, layer_edges}
 
 -- an outcome is not both
@@ -69,8 +68,6 @@ module _ (s : Settings) (ps : List Piece) (valid : Valid s ps) where
     pub layer_sound : (u : UnitGraph) → u.edges.now.conflicts ≡ conflicts → u.edges.now.stitches ≡ stitches → u.units.now ≡ units → Sound u
     layer_sound u c t a = record {
       exclusive = rw (c, t) (one_kind_each adjacency);
-      conflicts = rw c (conflicts_both_ways adjacency);
-      stitches = rw t (stitches_both_ways adjacency);
       few = rw (a, array.whole) few;
       small = λ i l. let inside : i < length ps = rw (a, array.whole) at l in rw a (omega (arith, array_grouping.lower i inside, inside, few));
     }
@@ -87,7 +84,7 @@ module _ (s : Settings) (ps : List Piece) (valid : Valid s ps) where
 
     same_graph : (vs : List ℕ) → SameEdges g (merged_graph (unit_of s ps) (length ps) (graph_of s ps)) vs
     same_graph vs =
-        let edges = layer_edges adjacency few in
+        let edges = layer_edges adjacency in
         rw array.whole record {
           conflicts = λ u v _ _. between_same (unit_at units) (length ps) array.unit _ _ (λ i j l k. sym (edges.conflicts i j ((in_up_to (length ps) i).1 l) ((in_up_to (length ps) j).1 k))) u v;
           stitches = λ u v _ _. between_same (unit_at units) (length ps) array.unit _ _ (λ i j l k. sym (edges.stitches i j ((in_up_to (length ps) i).1 l) ((in_up_to (length ps) j).1 k))) u v;
@@ -172,7 +169,7 @@ module _ (s : Settings) (ps : List Piece) (valid : Valid s ps) where
             score_same =
                 scored
                 ∙ ap (score_of s.weight (word_graph conflicts stitches) after) after_size
-                ∙ words_score s.weight s ps (length ps) conflicts stitches after adjacency few
+                ∙ words_score s.weight s ps (length ps) conflicts stitches after adjacency
                 ∙ rw reached_masks
 
             -- the run of the rules

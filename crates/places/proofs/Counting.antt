@@ -10,7 +10,8 @@ use native.Mathlib.Omega.{arith}
 use lib.Dec.{eqb}
 use lib.ListN.{length, get_or, length-append, length-map}
 use borrow.Author.Tests.{ne_eqb}
-use Rattle.bitset.specs.Bits.{member, has_edge, both}
+use Rattle.bitset.specs.Bits.{member}
+use Rattle.bitset.specs.Edges.{has_edge, both}
 use Rattle.bitset.specs.declared.matrix.Matrix.{Matrix}
 use Rattle.rules.specs.Basics.{given, sum_of, up_to, count_of, keep, occurs}
 use Rattle.rules.specs.Units.{merged_into, edges_between}
@@ -20,9 +21,7 @@ use Rattle.adjacency.specs.Members.{members_of}
 use Rattle.adjacency.specs.UnitGraph.{unit_at}
 use Rattle.theory.proofs.Cost.{sum_zero, sum_add}
 use Rattle.theory.proofs.EdgeLists.{Lists}
-use Rattle.theory.proofs.Merging.{member_in}
 use Rattle.theory.proofs.Neighbours.{count_same}
-use Rattle.adjacency.specs.Adjacency.{BothWays}
 use Rattle.places.specs.Storing.{piece_entries, place_entries}
 use Rattle.places.specs.LaidOut.{Exclusive}
 use Rattle.places.proofs.Seating.{Placed, placed_past, placed_at, placed_apart, piece_of_lem, piece_past}
@@ -79,11 +78,11 @@ map_below f k (y ∷ ys) h x m = each_cons {Q = λ z. z < k} (h y (here refl)) (
 -- ---- How often a place is entered
 
 module _ {units : List ℕ} {n : ℕ} {order : List ℕ} {k : ℕ} {s seats : List ℕ} (few : n ≤ 512) (placed : Placed units n order k s seats) where
-  module _ (words : Matrix) (ways : BothWays words) where
+  module _ (words : Matrix) where
     -- for a piece: once for each edge to a piece of that place
-    piece_counted : (p i : ℕ) → p < 512 → i < k → count_of (eqb i) (piece_entries words seats s p) ≡ sum_of (λ q. given (has_edge words q p) 1) (merged_into (unit_at units) n (get_or order i 0))
+    piece_counted : (p i : ℕ) → i < k → count_of (eqb i) (piece_entries words seats s p) ≡ sum_of (λ q. given (has_edge words q p) 1) (merged_into (unit_at units) n (get_or order i 0))
     unfolding piece_entries
-    piece_counted p i l b =
+    piece_counted p i b =
         let at : ℕ → Bool = λ q. both words p s q && eqb i (get_or seats q 0) in
         let of : ℕ → Bool = λ q. eqb (unit_at units q) (get_or order i 0) in
         count_map (eqb i) (λ q. get_or seats q 0) (keep (both words p s) (up_to 512))
@@ -92,19 +91,19 @@ module _ {units : List ℕ} {n : ℕ} {order : List ℕ} {k : ℕ} {s seats : Li
         ∙ count_same at (λ q. of q && has_edge words q p) (up_to n) (λ q m.
         let h = (in_up_to n q).0 m in
         and_assoc (has_edge words p q) (member s q) (eqb i (get_or seats q 0))
-        ∙ ap₂ ◌&&◌ (ways p q l (omega arith)) (placed_at placed q i h b)
+        ∙ ap₂ ◌&&◌ (words.both_ways p q) (placed_at placed q i h b)
         ∙ and_comm (has_edge words q p) (of q))
         ∙ sym (count_keep (λ q. has_edge words q p) of (up_to n))
         ∙ count_sum (λ q. has_edge words q p) (merged_into (unit_at units) n (get_or order i 0))
 
     -- for several pieces
-    place_counted : (i : ℕ) → i < k → (ps : List ℕ) → ((p : ℕ) → p ∈ ps → p < 512)
+    place_counted : (i : ℕ) → i < k → (ps : List ℕ)
         → count_of (eqb i) (place_entries words seats s ps) ≡ sum_of (λ q. sum_of (λ p. given (has_edge words q p) 1) ps) (merged_into (unit_at units) n (get_or order i 0))
     unfolding place_entries count_of sum_of
-    place_counted i b [] small = sym (sum_zero (λ q. 0) (merged_into (unit_at units) n (get_or order i 0)) (λ u m. refl))
-    place_counted i b (p ∷ ps) small =
+    place_counted i b [] = sym (sum_zero (λ q. 0) (merged_into (unit_at units) n (get_or order i 0)) (λ u m. refl))
+    place_counted i b (p ∷ ps) =
         count_append (eqb i) (piece_entries words seats s p) (place_entries words seats s ps)
-        ∙ ap₂ ◌+◌ (piece_counted p i (small p (here refl)) b) (place_counted i b ps (λ u m. small u (later m)))
+        ∙ ap₂ ◌+◌ (piece_counted p i b) (place_counted i b ps)
         ∙ sym (sum_add (λ q. given (has_edge words q p) 1) (λ q. sum_of (λ p. given (has_edge words q p) 1) ps) (merged_into (unit_at units) n (get_or order i 0)))
 
   -- all are earlier places
@@ -125,14 +124,14 @@ module _ {units : List ℕ} {n : ℕ} {order : List ℕ} {k : ℕ} {s seats : Li
     pieces = merged_into (unit_at units) n (get_or order k 0)
 
     -- a place is entered once for each edge between pieces of the two units
-    pub place_lists : (words : Matrix) → BothWays words
+    pub place_lists : (words : Matrix)
         → Lists (λ i j. edges_between (λ a b. given (has_edge words a b) 1) (unit_at units) n (get_or order i 0) (get_or order j 0)) k (place_entries words seats s pieces)
     unfolding edges_between
-    place_lists words ways = record {
+    place_lists words = record {
       below = place_below words pieces;
       counted = λ i b.
           rw (ne_eqb (get_or order i 0) (get_or order k 0) (λ e. omega (arith, rising i b)))
-          (place_counted words ways i b pieces (λ p m. omega (arith, (member_in (unit_at units) n m).0)));
+          (place_counted words i b pieces);
     }
 
     -- ---- How many entries there are

@@ -5,7 +5,8 @@ use mathlib.Core.Path.{◌≡◌, ap, subst}
 use Prim.Native.Nat.{ℕ, ◌+◌, ◌≤◌, ◌<◌}
 use native.Mathlib.Omega.{arith}
 use lib.ListN.{length, get_or, set, length-append}
-use Rattle.bitset.specs.Bits.{member, both, Taken}
+use Rattle.bitset.specs.Bits.{member, Taken}
+use Rattle.bitset.specs.Edges.{both}
 use Rattle.bitset.specs.declared.matrix.Matrix.{Matrix}
 use Rattle.rules.specs.Basics.{up_to}
 use Rattle.rules.proofs.Lists.{keep_same}

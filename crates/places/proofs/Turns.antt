@@ -11,7 +11,6 @@ use Rattle.rules.specs.Units.{merged_into}
 use Rattle.adjacency.specs.Members.{members_of}
 use Rattle.adjacency.specs.UnitGraph.{unit_at, unit_graph}
 use Rattle.adjacency.proofs.MemberLaws.{members_few}
-use Rattle.adjacency.specs.Adjacency.{BothWays}
 use Rattle.places.specs.Seats.{Seated}
 use Rattle.places.specs.Storing.{Stored, place_entries}
 use Rattle.places.specs.LaidOut.{Exclusive, LaidOut}
@@ -33,8 +32,6 @@ pub record Known (conflictWords stitchWords : Matrix) (n : ℕ) (order : List �
   pub small : size ≤ 512
   pub rising : (i j : ℕ) → i < j → j < size → get_or order i 0 < get_or order j 0
   pub exclusive : Exclusive conflictWords stitchWords
-  pub conflict_ways : BothWays conflictWords
-  pub stitch_ways : BothWays stitchWords
 
 module _ {conflictWords stitchWords : Matrix} {units : List ℕ} {n : ℕ} {order : List ℕ} {size : ℕ} {starts list : List ℕ} {end k : ℕ} {s seats : List ℕ}
     (known : Known conflictWords stitchWords n order size) (turn : Turn conflictWords stitchWords units n order starts list end k s seats) where
@@ -64,8 +61,8 @@ module _ {conflictWords stitchWords : Matrix} {units : List ℕ} {n : ℕ} {orde
           laid = subst⁻¹ (λ (l : List ℕ). Laid (local_graph (unit_graph conflictWords stitchWords units n) order) l list₂ end₂ (k + 1))
               (mark-two ∙ ap (λ (l : List ℕ). set l (2 * k + 2) end₂) mark-one)
               (laid_next (omega (arith, known.small)) turn.laid one two
-              (place_lists known.few turn.placed rising conflictWords known.conflict_ways)
-              (place_lists known.few turn.placed rising stitchWords known.stitch_ways));
+              (place_lists known.few turn.placed rising conflictWords)
+              (place_lists known.few turn.placed rising stitchWords));
           placed = placed_next turn.placed rising new;
           room = rw (size', end')
               (room_next end (length (members_of s)) (length pieces) more turn.room (place_few conflictWords stitchWords known.exclusive seats s pieces));

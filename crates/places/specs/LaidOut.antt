@@ -1,6 +1,6 @@
 -- What is laid out of a component, from adjacency words: its places stand in rising order of their units. Assumes nothing: these are definitions.
 use Rattle.std.specs.Prelude.{true, false, List, ◌≡◌, ℕ, ◌<◌, length}
-use Rattle.bitset.specs.Bits.{has_edge}
+use Rattle.bitset.specs.Edges.{has_edge}
 use Rattle.bitset.specs.declared.matrix.Matrix.{Matrix}
 use Rattle.rules.specs.Search.{local_graph, added}
 use Rattle.adjacency.specs.UnitGraph.{unit_graph}

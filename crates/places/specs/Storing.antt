@@ -1,7 +1,7 @@
 -- Numbers stored in a list one after the other, and what is stored for a place: the places of its pieces' neighbours, once for each edge.
 -- Assumes nothing: these are definitions.
 use Rattle.std.specs.Prelude.{List, [], ◌∷◌, ◌++◌, map, ◌≡◌, ℕ, zero, suc, ◌+◌, ◌-◌, ◌≤◌, ◌<◌, length, get_or}
-use Rattle.bitset.specs.Bits.{both}
+use Rattle.bitset.specs.Edges.{both}
 use Rattle.bitset.specs.declared.matrix.Matrix.{Matrix}
 use Rattle.rules.specs.Basics.{up_to, keep}
 

@@ -3,7 +3,6 @@
 ghost use Rattle.std.specs.Prelude.{[], ◌≡◌, ℕ, ◌+◌, ◌≤◌, ◌<◌, length, get_or, slice_range};
 ghost use Rattle.adjacency.specs.Members.{members_of};
 ghost use Rattle.adjacency.specs.UnitGraph.{unit_at};
-ghost use Rattle.adjacency.specs.Adjacency.{BothWays};
 ghost use Rattle.places.specs.Local.{conflicts_at, stitches_at, end_at, PlaceLists};
 ghost use Rattle.places.specs.Storing.{Stored, piece_entries, place_entries};
 ghost use Rattle.places.specs.LaidOut.{Exclusive, LaidOut};
@@ -50,7 +49,6 @@ impl Lists {
         requires by_index_2 { (i j : ℕ) → i < j → j < length order.now → get_or order.now i 0 < get_or order.now j 0 }
         requires by_index_3 { (i : ℕ) → i < length units.now → unit_at units.now i < 512 }
         requires exclusive { Exclusive edges.now.conflicts edges.now.stitches }
-        requires both_ways { BothWays edges.now.conflicts × BothWays edges.now.stitches }
         ensures { LaidOut edges.now.conflicts edges.now.stitches units.now (length units.now) order.now (length order.now) self.new.starts self.new.entries }
     {
         let mut of_units = [BitSet::empty(); 512];

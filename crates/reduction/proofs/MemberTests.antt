@@ -8,7 +8,8 @@ use Prim.Native.Nat.{ℕ, zero, suc, ◌+◌, ◌<◌}
 use native.Mathlib.Omega.{arith}
 use lib.Dec.{ltb}
 use mir.Val.{bool_byte}
-use Rattle.bitset.specs.Bits.{member, has_edge, both, count_below}
+use Rattle.bitset.specs.Bits.{member, count_below}
+use Rattle.bitset.specs.Edges.{has_edge, both}
 use Rattle.bitset.specs.declared.matrix.Matrix.{Matrix}
 use Rattle.bitset.proofs.Counts.{count_ext}
 use Rattle.rules.specs.Basics.{given, up_to, up_from, count_of, find}

@@ -14,7 +14,8 @@ use Rattle.std.specs.List.{All}
 use Rattle.std.specs.Prelude as std
 use Rattle.std.specs.Prelude.{None, Some}
 use Rattle.std.proofs.lemmas.List.Elements.{All-nil, All-push}
-use Rattle.bitset.specs.Bits.{member, has_edge, both, Size, Least}
+use Rattle.bitset.specs.Bits.{member, Size, Least}
+use Rattle.bitset.specs.Edges.{has_edge, both}
 use Rattle.bitset.specs.declared.matrix.Matrix.{Matrix}
 use Rattle.bitset.proofs.Counts.{count_none}
 use Rattle.rules.specs.Basics.{find, without}

@@ -14,7 +14,8 @@ use Rattle.std.proofs.lemmas.List.{nil_from_length}
 use Rattle.std.proofs.lemmas.List.Elements.{All-weaker, All-pop}
 use Rattle.std.specs.Prelude as std
 use Rattle.std.specs.Prelude.{None, Some, unwrap_or}
-use Rattle.bitset.specs.Bits.{bit, member, has_edge, both, Taken, Lowest, WithMask}
+use Rattle.bitset.specs.Bits.{bit, member, Taken, Lowest, WithMask}
+use Rattle.bitset.specs.Edges.{has_edge, both}
 use Rattle.bitset.specs.declared.matrix.Matrix.{Matrix}
 use Rattle.bitset.proofs.Counts.{count_in, count_le, count_bits, count_missing}
 use Rattle.bitset.proofs.Words.{bit_of_zero}

@@ -3,7 +3,8 @@
 use Rattle.std.specs.Prelude.{Bool, true, not, ◌&&◌, List, ◌≡◌, ℕ, ◌<◌, ◌^◌, eqb, length, get_or, Option, None, Some, MatchOption}
 use Rattle.std.specs.List.{All}
 use Rattle.std.proofs.Math.Option.{none, some}
-use Rattle.bitset.specs.Bits.{bit, member, has_edge}
+use Rattle.bitset.specs.Bits.{bit, member}
+use Rattle.bitset.specs.Edges.{has_edge}
 use Rattle.bitset.specs.declared.matrix.Matrix.{Matrix}
 use Rattle.rules.specs.Basics.{up_to, any_of, find}
 use Rattle.rules.specs.Edges.{Graph}

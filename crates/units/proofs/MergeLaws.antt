@@ -4,13 +4,13 @@ use mathlib.Core.Bool.{Bool, true, false, not, ◌&&◌, ◌||◌, or-false, or_
 use mathlib.Core.List.{List}
 use mathlib.Core.Logic.{⊎_elim}
 use mathlib.Core.Path.{◌≡◌, refl, sym, ap, ◌∙◌}
-use Prim.Native.Nat.{ℕ, ◌+◌, ◌≤◌, ◌<◌}
+use Prim.Native.Nat.{ℕ, ◌+◌, ◌<◌}
 use native.Mathlib.Omega.{arith}
 use lib.Dec.{eqb, ltb}
 use borrow.Author.Tests.{eqb-true, eqb-false, eq-eqb, ne_eqb, ltb-true, lt-ltb, not-true}
-use Rattle.bitset.specs.Bits.{member, has_edge, no_edge, both as inRowAndSet, Taken}
+use Rattle.bitset.specs.Bits.{member, Taken}
+use Rattle.bitset.specs.Edges.{has_edge, NoEdge, both as inRowAndSet}
 use Rattle.bitset.specs.declared.matrix.Matrix.{Matrix}
-use Rattle.bitset.proofs.Sets.{no_edge_has}
 use Rattle.rules.specs.Basics.{up_from, up_to, any_of}
 use Rattle.rules.proofs.Lists.{any_in, in_any, any_next, out_any, in_up_to}
 use Rattle.rules.proofs.Finding.{any_without}
@@ -18,7 +18,6 @@ use Rattle.rules.proofs.Tests.{both, clash, or_either, same, lt_or_ge}
 use Rattle.adjacency.specs.Members.{members_of}
 use Rattle.adjacency.specs.UnitGraph.{unit_at}
 use Rattle.adjacency.proofs.MemberLaws.{in_members, members_out}
-use Rattle.adjacency.specs.Adjacency.{BothWays}
 use Rattle.units.specs.Merged.{Merged}
 use Rattle.units.specs.Steps.{two_units, joins_units, MergedRow}
 use Rattle.units.proofs.UnitNeighbours.{UnitEdge, unit_edge, other_way, unit_edge_back}
@@ -83,9 +82,9 @@ module _ {words : Matrix} {units : List ℕ} {j : ℕ} {before after : Matrix} {
 pub record MergedRows (words : Matrix) (units : List ℕ) (m : ℕ) (merged : Matrix) : Type 0 where
   pub bits : (a b : ℕ) → has_edge merged a b ≡ any_of (λ j. any_of (joins_units words units a b j) (up_to j)) (up_to m)
 
-pub rows_none : (words : Matrix) (units : List ℕ) {merged : Matrix} → merged ≡ no_edge → MergedRows words units 0 merged
+pub rows_none : (words : Matrix) (units : List ℕ) {merged : Matrix} → NoEdge merged → MergedRows words units 0 merged
 unfolding up_from any_of
-rows_none words units e = record { bits = λ a b. rw e (no_edge_has a b) }
+rows_none words units e = record { bits = λ a b. e.none a b }
 
 pub rows_next : {words : Matrix} {units : List ℕ} {m : ℕ} {merged merged' : Matrix} → MergedRows words units m merged → MergedRow words units m merged merged'
     → MergedRows words units (m + 1) merged'
@@ -100,7 +99,7 @@ two_along a b h = rw (ne_eqb a b h, eq-eqb a a refl, eq-eqb b b refl)
 two_across : (a b : ℕ) → (a ≡ b → ⊥) → two_units b a a b ≡ true
 two_across a b h = rw (ne_eqb b a (λ e. h (sym e)), ne_eqb a b h, eq-eqb a a refl, eq-eqb b b refl)
 
-module _ {words : Matrix} {units : List ℕ} {n : ℕ} (few : n ≤ 512) (ways : BothWays words) where
+module _ {words : Matrix} {units : List ℕ} {n : ℕ} where
   -- an edge that was met joins two units
   joined_units : {a b i j : ℕ} → i < j → j < n → joins_units words units a b j i ≡ true → UnitEdge words units n a b
   joined_units {a} {b} {i} {j} l h e =
@@ -112,7 +111,7 @@ module _ {words : Matrix} {units : List ℕ} {n : ℕ} (few : n ≤ 512) (ways :
       let one : UnitEdge words units n y x
       = record { two = λ q. apart (sym q); from = j; to = i; from_piece = h; to_piece = omega arith; from_unit = refl; to_unit = refl; edge = edge } in
       ⊎_elim
-      (λ p. let (q, r) = both (eqb a x) (eqb b y) p in rw (eqb-true a x q, eqb-true b y r) (unit_edge_back units few ways one))
+      (λ p. let (q, r) = both (eqb a x) (eqb b y) p in rw (eqb-true a x q, eqb-true b y r) (unit_edge_back units one))
       (λ p. let (q, r) = both (eqb a y) (eqb b x) p in rw (eqb-true a y q, eqb-true b x r) one)
       (or_either (eqb a x && eqb b y) (eqb a y && eqb b x) pair)
 
@@ -122,7 +121,7 @@ module _ {words : Matrix} {units : List ℕ} {n : ℕ} (few : n ≤ 512) (ways :
       ⊎_elim
       (λ l. in_any _ ((in_up_to n u.to).1 u.to_piece)
       (in_any (joins_units words units a b u.to) ((in_up_to u.to u.from).1 l)
-      (rw (other_way units few ways u, u.from_unit, u.to_unit) (two_along a b u.two))))
+      (rw (other_way units u, u.from_unit, u.to_unit) (two_along a b u.two))))
       (λ l. in_any _ ((in_up_to n u.from).1 u.from_piece)
       (in_any (joins_units words units a b u.from) ((in_up_to u.from u.to).1 (omega (arith, apart)))
       (rw (u.edge, u.from_unit, u.to_unit) (two_across a b u.two))))

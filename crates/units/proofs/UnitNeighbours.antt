@@ -4,17 +4,16 @@ use mathlib.Core.Bool.{true, not}
 use mathlib.Core.List.{List}
 use mathlib.Core.Logic.{◌↔◌}
 use mathlib.Core.Path.{◌≡◌, sym, ◌∙◌}
-use Prim.Native.Nat.{ℕ, ◌≤◌, ◌<◌}
-use native.Mathlib.Omega.{arith}
+use Prim.Native.Nat.{ℕ, ◌<◌}
 use lib.Dec.{eqb, ltb}
 use borrow.Author.Tests.{eqb-false, ne_eqb, not-true}
-use Rattle.bitset.specs.Bits.{has_edge}
+use Rattle.bitset.specs.Edges.{has_edge}
 use Rattle.bitset.specs.declared.matrix.Matrix.{Matrix}
 use Rattle.rules.specs.Basics.{given}
 use Rattle.rules.specs.Units.{merged_into, edges_between}
 use Rattle.rules.proofs.Lists.{◌∈◌, any_in, in_any}
-use Rattle.rules.proofs.Tests.{both, same}
-use Rattle.adjacency.specs.Adjacency.{word_graph, BothWays}
+use Rattle.rules.proofs.Tests.{both}
+use Rattle.adjacency.specs.Adjacency.{word_graph}
 use Rattle.adjacency.specs.UnitGraph.{unit_at, unit_graph}
 use Rattle.adjacency.proofs.AdjacencyLaws.{given_test}
 use Rattle.theory.proofs.Merging.{member_in, in_member, merged_neighbours}
@@ -61,10 +60,10 @@ unit_edge words units n a b =
           (in_any _ (in_member unit n u.to_piece u.to_unit) (given_test (has_edge words u.from u.to) ∙ u.edge))),
     )
 
-module _ {words : Matrix} (units : List ℕ) {n : ℕ} (few : n ≤ 512) (ways : BothWays words) where
+module _ {words : Matrix} (units : List ℕ) {n : ℕ} where
   -- the edge from its other piece
   pub other_way : {a b : ℕ} (u : UnitEdge words units n a b) → has_edge words u.to u.from ≡ true
-  other_way u = ways u.to u.from (omega (arith, u.to_piece)) (omega (arith, u.from_piece)) ∙ u.edge
+  other_way u = words.both_ways u.to u.from ∙ u.edge
 
   pub unit_edge_back : {a b : ℕ} → UnitEdge words units n a b → UnitEdge words units n b a
   unit_edge_back u = record {
@@ -77,15 +76,6 @@ module _ {words : Matrix} (units : List ℕ) {n : ℕ} (few : n ≤ 512) (ways :
     to_unit = u.from_unit;
     edge = other_way u;
   }
-
-  -- merged words join both ways
-  pub merged_ways : {merged : Matrix} → Merged words units n merged → BothWays merged
-  merged_ways m a b l k =
-      m.bits a b l k
-      ∙ same _ _
-      (λ e. (unit_edge words units n b a).1 (unit_edge_back ((unit_edge words units n a b).0 e)))
-      (λ e. (unit_edge words units n a b).1 (unit_edge_back ((unit_edge words units n b a).0 e)))
-      ∙ sym (m.bits b a k l)
 
 -- merged words have the neighbours of the graph of units
 pub unit_neighbours : {conflicts stitches mergedConflicts mergedStitches : Matrix} {units vs : List ℕ} {n : ℕ}

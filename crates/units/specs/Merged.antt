@@ -1,6 +1,6 @@
 -- Adjacency words of units. Assumes nothing: these are definitions.
 use Rattle.std.specs.Prelude.{List, ◌≡◌, ℕ, ◌<◌, ltb}
-use Rattle.bitset.specs.Bits.{has_edge}
+use Rattle.bitset.specs.Edges.{has_edge}
 use Rattle.bitset.specs.declared.matrix.Matrix.{Matrix}
 use Rattle.rules.specs.Basics.{given}
 use Rattle.rules.specs.Units.{edges_between}

@@ -1,6 +1,7 @@
 -- What one step leaves: a unit's number given to its members, and the edges of one piece merged. Assumes nothing: these are definitions.
 use Rattle.std.specs.Prelude.{Bool, true, false, not, ◌&&◌, ◌||◌, List, ◌≡◌, ℕ, ◌<◌, eqb, length}
-use Rattle.bitset.specs.Bits.{member, has_edge}
+use Rattle.bitset.specs.Bits.{member}
+use Rattle.bitset.specs.Edges.{has_edge}
 use Rattle.bitset.specs.declared.matrix.Matrix.{Matrix}
 use Rattle.rules.specs.Basics.{up_to, any_of}
 use Rattle.adjacency.specs.Adjacency.{is_pair}

@@ -1,8 +1,7 @@
 // The edges of units, from those of pieces. Only edges are visited, each from its greater piece.
 ghost use Rattle.std.specs.Prelude.{◌||◌, ◌≡◌, ℕ, ◌≤◌, ◌<◌, length};
-ghost use Rattle.bitset.specs.Bits.{has_edge};
+ghost use Rattle.bitset.specs.Edges.{has_edge};
 ghost use Rattle.adjacency.specs.UnitGraph.{unit_at};
-ghost use Rattle.adjacency.specs.Adjacency.{BothWays};
 ghost use Rattle.units.specs.Steps.{two_units, MergedRow};
 ghost use Rattle.units.specs.Merged.{Merged};
 
@@ -37,7 +36,6 @@ fn merge_row(words: &Matrix, units: &[u16], j: usize, merged: &mut Matrix)
 fn merge_words(words: &Matrix, units: &[u16], merged: &mut Matrix)
     requires few { length units.now ≤ 512 }
     requires by_index { (i : ℕ) → i < length units.now → unit_at units.now i < 512 }
-    requires both_ways { BothWays words.now }
     ensures { Merged words.now units.now (length units.now) merged.new }
 {
     merged.clear();
@@ -50,8 +48,6 @@ fn merge_words(words: &Matrix, units: &[u16], merged: &mut Matrix)
 pub fn merge_edges(edges: &EdgeSets, units: &[u16], merged: &mut EdgeSets)
     requires few { length units.now ≤ 512 }
     requires by_index { (i : ℕ) → i < length units.now → unit_at units.now i < 512 }
-    requires conflict_ways { BothWays edges.now.conflicts }
-    requires stitch_ways { BothWays edges.now.stitches }
     ensures conflicts { Merged edges.now.conflicts units.now (length units.now) merged.new.conflicts }
     ensures stitches { Merged edges.now.stitches units.now (length units.now) merged.new.stitches }
 {

@@ -2,7 +2,7 @@
 // piece is numbered once, however long a chain of ties is.
 ghost use Rattle.std.specs.Prelude.{true, ◌≡◌, ℕ, ◌≤◌, ◌<◌, length};
 ghost use Rattle.bitset.specs.Bits.{member};
-ghost use Rattle.adjacency.specs.Adjacency.{Adjacency, BothWays};
+ghost use Rattle.adjacency.specs.Adjacency.{Adjacency};
 ghost use Rattle.units.specs.Steps.{GivenNumber};
 ghost use Rattle.units.specs.Numbered.{Numbered, UnitsOf};
 
@@ -23,8 +23,7 @@ fn give_number(members: &BitSet, number: usize, units: &mut [u16])
 
 // Gives each piece the number of its unit, by the words of ties. Answers the set of the units' numbers.
 pub fn number_units(ties: &Matrix, units: &mut [u16]) -> BitSet
-    requires few { length units.old ≤ 512 }
-    requires both_ways { BothWays ties.now }
+    requires { length units.old ≤ 512 }
     ensures { Numbered ties.now (length units.old) units.new result }
 {
     let mut numbers = BitSet::empty();

@@ -27,11 +27,10 @@ loop-u-smaller c =
     omega (arith, turn_count c.args.v (turn c) c.loop-u.invariant, count_le 512 (looked c.union-inside.result c.union-frontier.result))
 
 pub loop-u-preserved : goal.loop-u-preserved
-loop-u-preserved c = turn_grown c.args.v (turn c) c.loop-u.invariant c.requires.both_ways c.requires.both_ways_2
+loop-u-preserved c = turn_grown c.args.v (turn c) c.loop-u.invariant
 
 pub returns : goal.returns
 returns c =
     let at = c.loop-u in
     let given = c.args in
-    grown_done given.conflicts.now given.stitches.now given.left.now given.v at.inside at.frontier
-    c.requires.both_ways c.requires.both_ways_2 c.in_default.ensures.0 at.invariant
+    grown_done given.conflicts.now given.stitches.now given.left.now given.v at.inside at.frontier c.in_default.ensures.0 at.invariant

@@ -6,7 +6,7 @@ use Rattle.adjacency.specs.Members.{members_of}
 use Rattle.adjacency.proofs.MemberLaws.{in_members}
 use Rattle.theory.proofs.Neighbours.{SameJoined, joined_same}
 use Rattle.components.proofs.Taking.{fewer_left}
-use Rattle.units.proofs.UnitNeighbours.{unit_neighbours, merged_ways}
+use Rattle.units.proofs.UnitNeighbours.{unit_neighbours}
 use Rattle.core_search.specs.Core.{graph_of}
 use Rattle.core_search.proofs.CoreLaws.{core_done, core_next}
 use Rattle.core_search.proofs.search_core.Goals as goal
@@ -16,12 +16,6 @@ use Rattle.core_search.proofs.search_core.Goals.{In-Some}
 module _ (c : In-Some) where
   joins : (vertices : List ℕ) → SameJoined (graph_of c.args.graph.now) (word_graph c.args.merged.now.conflicts c.args.merged.now.stitches) (members_of vertices)
   joins vertices = joined_same (unit_neighbours c.requires.merged c.requires.merged_2 (λ u m. ((in_members vertices u).0 m).0))
-
-pub component-component-requires-clause-both_ways : goal.component-component-requires-clause-both_ways
-component-component-requires-clause-both_ways c = merged_ways _ c.requires.sound.few c.requires.sound.conflicts c.requires.merged
-
-pub component-component-requires-clause-both_ways_2 : goal.component-component-requires-clause-both_ways_2
-component-component-requires-clause-both_ways_2 c = merged_ways _ c.requires.sound.few c.requires.sound.stitches c.requires.merged_2
 
 pub loop-v-smaller : goal.loop-v-smaller
 loop-v-smaller c = fewer_left _ _ c.in-Some.ensures.0 c.in-Some.ensures.1 c.component-component.ensures c.difference-rest.ensures

@@ -12,7 +12,7 @@ use Rattle.counting.proofs.count_edges.Goals.{After-from-count}
 pub loop-i-init : goal.loop-i-init
 loop-i-init c =
     rw (c.into_iter-i-iterator.ensures.into_iter_gives, c.members-i-items.ensures)
-    (counting_start _ _ _ _ c.requires.both_ways c.requires.j_bound c.below.result c.below.ensures c.neighbours_in.ensures)
+    (counting_start _ _ _ _ c.below.result c.below.ensures c.neighbours_in.ensures)
 
 -- one edge more was counted, or none
 term : (c : After-from-count) → c.from-count.result ≡ given (edge_counts c.args.edge (mask_of c.args.masks.now c.in-Some.i) (mask_of c.args.masks.now c.args.j)) 1

@@ -2,13 +2,10 @@
 use Rattle.std.proofs.Common.{◌≡◌, length, take, sym, ap, ◌∙◌, arith}
 use Rattle.units.specs.Numbered.{UnitsOf}
 use Rattle.units.proofs.SplitLaws.{unit_inside}
-use Rattle.units.proofs.TieUnits.{ties_ways, front_numbered}
+use Rattle.units.proofs.TieUnits.{front_numbered}
 use Rattle.fixed_masks.proofs.FixedLaws.{masks_length, fixed_asked}
 use Rattle.fixed_masks.proofs.judge_units.Goals as goal
 use Rattle.fixed_masks.proofs.judge_units.Goals.{After-number_units}
-
-pub number_units-requires-clause-both_ways : goal.number_units-requires-clause-both_ways
-number_units-requires-clause-both_ways c = ties_ways _ _ c.tie_words.ensures
 
 -- the units are the layer's
 numbered : (c : After-number_units) → UnitsOf c.args.settings c.args.pieces.now c.number_units.new.units c.number_units.result

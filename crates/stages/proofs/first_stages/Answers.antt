@@ -4,7 +4,6 @@ use Rattle.rules.specs.Settings.{fixed_masks}
 use Rattle.rules.proofs.Ranges.{settings_facts}
 use Rattle.rules.proofs.Validity.{valid_sound}
 use Rattle.adjacency.specs.UnitGraph.{unit_at}
-use Rattle.adjacency.proofs.AdjacencyLaws.{conflicts_both_ways, stitches_both_ways}
 use Rattle.fixed_masks.proofs.FixedLaws.{masks_length}
 use Rattle.units.specs.Noted.{NotedMasks}
 use Rattle.units.proofs.SplitLaws.{unit_inside}
@@ -30,12 +29,9 @@ pub merge_edges-requires : goal.merge_edges-requires
 merge_edges-requires c =
     let sizes = few_pieces _ _ c.requires.valid in
     let numbered = c.layer_units-core.ensures.units_of in
-    let edges = c.layer_units-core.ensures.adjacency in
     record {
       few = omega (arith, numbered.whole, sizes);
       by_index = λ i l. let inside = rw numbered.whole at l in omega (arith, sizes, unit_inside _ _ numbered i inside);
-      conflict_ways = conflicts_both_ways edges;
-      stitch_ways = stitches_both_ways edges;
     }
 
 pub search_core-requires-clause-sound : goal.search_core-requires-clause-sound

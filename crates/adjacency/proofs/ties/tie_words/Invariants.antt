@@ -1,7 +1,7 @@
 -- `tie_words`. The invariant: the words have the ties of the pieces before j, those of each with itself too. Assumes nothing.
 use Rattle.std.proofs.Common.{◌≡◌, ℕ, max, ltb}
 use mathlib.Core.Bool.{◌&&◌}
-use Rattle.bitset.specs.Bits.{has_edge}
+use Rattle.bitset.specs.Edges.{has_edge}
 use Rattle.adjacency.specs.Adjacency.{tie_of}
 use Rattle.adjacency.proofs.ties.tie_words.Given as goal
 

@@ -4,7 +4,6 @@ use native.Mathlib.Omega.{arith}
 use Rattle.rules.specs.Settings.{fixed_masks}
 use Rattle.rules.proofs.Validity.{layer_facts}
 use Rattle.adjacency.specs.UnitGraph.{unit_at}
-use Rattle.adjacency.proofs.AdjacencyLaws.{conflicts_both_ways, stitches_both_ways}
 use Rattle.fixed_masks.proofs.FixedLaws.{masks_length}
 use Rattle.units.specs.Noted.{NotedMasks}
 use Rattle.units.proofs.SplitLaws.{unit_inside}
@@ -58,8 +57,6 @@ score_edges-score-requires c =
     record {
       weight_bound = (layer_facts _ _ valid).settings.weight.high;
       masks_bound = omega (arith, size, (layer_facts _ _ valid).few);
-      both_ways = conflicts_both_ways adjacency;
-      both_ways_2 = stitches_both_ways adjacency;
     }
 
 pub returns : goal.returns

@@ -5,14 +5,11 @@ use Rattle.std.proofs.lemmas.Result.{err_from_is_err_and}
 use Rattle.rules.specs.Questions.{done}
 use Rattle.rules.proofs.Validity.{layer_facts}
 use Rattle.units.specs.Numbered.{UnitsOf}
-use Rattle.units.proofs.TieUnits.{ties_ways, front_numbered}
+use Rattle.units.proofs.TieUnits.{front_numbered}
 use Rattle.scoring.proofs.TallyLaws.{few_pairs, tally_scoring}
 use Rattle.scoring.proofs.QuestionLaws.{unit_masked, split_asked}
 use Rattle.scoring.proofs.scores.score_units.Goals as goal
 use Rattle.scoring.proofs.scores.score_units.Goals.{After-number_units, After-test_pairs-tally}
-
-pub number_units-requires-clause-both_ways : goal.number_units-requires-clause-both_ways
-number_units-requires-clause-both_ways c = ties_ways c.args.layer.now.settings c.args.layer.now.pieces.now c.test_pairs-tally.ensures.ties
 
 -- the units are the layer's
 numbered : (c : After-number_units) → UnitsOf c.args.layer.now.settings c.args.layer.now.pieces.now c.number_units.new.units c.number_units.result

@@ -1,7 +1,7 @@
 use Rattle.std.proofs.Common.{ap₂, ◌∙◌, arith}
 use mathlib.Core.Bool.{◌||◌}
 use Prim.Native.Nat.{ℕ}
-use Rattle.bitset.specs.Bits.{has_edge}
+use Rattle.bitset.specs.Edges.{has_edge}
 use Rattle.units.specs.Steps.{two_units}
 use Rattle.units.proofs.MergeLaws.{row_none, row_next, row_all}
 use Rattle.units.proofs.merging.merge_row.Goals as goal

@@ -11,4 +11,4 @@ loop-j-preserved c = rows_next c.loop-j.invariant c.merge_row.ensures
 pub returns : goal.returns
 returns c =
     let e : c.loop-j.j ≡ length c.args.units.now = omega arith in
-    rows_all c.requires.few c.requires.both_ways (rw e at c.loop-j.invariant)
+    rows_all (rw e at c.loop-j.invariant)

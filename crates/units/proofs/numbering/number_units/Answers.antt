@@ -13,4 +13,4 @@ loop-v-preserved c =
     numbering_next c.loop-v.invariant c.put.new.self c.difference-rest.result small first c.component-unit.ensures c.give_number.ensures c.put.ensures c.difference-rest.ensures
 
 pub returns : goal.returns
-returns c = numbering_all c.loop-v.invariant c.requires.few c.below-rest.ensures c.in_default.ensures
+returns c = numbering_all c.loop-v.invariant c.requires c.below-rest.ensures c.in_default.ensures

@@ -42,8 +42,6 @@ module _ (turn : In-loop-k) where
     small = turn.requires.size_bound.0;
     rising = turn.requires.by_index_2;
     exclusive = turn.requires.exclusive;
-    conflict_ways = turn.requires.both_ways.0;
-    stitch_ways = turn.requires.both_ways.1;
   }
 
   room : turn.loop-k.end + (length (entries_of turn.args.edges.now.conflicts) + length (entries_of turn.args.edges.now.stitches)) ≤ 131_584
@@ -90,6 +88,4 @@ returns c =
       small = c.requires.size_bound.0;
       rising = c.requires.by_index_2;
       exclusive = c.requires.exclusive;
-      conflict_ways = c.requires.both_ways.0;
-      stitch_ways = c.requires.both_ways.1;
     }) c.loop-k.invariant (omega arith)

@@ -23,10 +23,16 @@ free : (c : Else-is_some) → fixed_at c.args.self.now.fixed.now c.args.v ≡ un
 free c = not_stated _ (tested c.before ∙ c.if-is_some.false)
 
 pub returns-in-0 : goal.returns-in-0
-returns-in-0 c = go_unstitched _ _ _ _ _ _ _ _ c.degree_in-near.ensures c.degree_in.ensures (free (goal.at.returns-in-0 c).Else-is_some) c.in-0.is
+returns-in-0 c =
+    let edges = c.args.self.now.edges.now in
+    go_unstitched _ edges.conflicts edges.stitches _ _ _ _ _ c.degree_in-near.ensures c.degree_in.ensures (free (goal.at.returns-in-0 c).Else-is_some) c.in-0.is
 
 pub returns-in-1 : goal.returns-in-1
-returns-in-1 c = go_pendant _ _ _ _ _ _ _ _ c.degree_in-near.ensures c.degree_in.ensures (free (goal.at.returns-in-1 c).Else-is_some) c.in-1.is
+returns-in-1 c =
+    let edges = c.args.self.now.edges.now in
+    go_pendant _ edges.conflicts edges.stitches _ _ _ _ _ c.degree_in-near.ensures c.degree_in.ensures (free (goal.at.returns-in-1 c).Else-is_some) c.in-1.is
 
 pub returns-in_default : goal.returns-in_default
-returns-in_default c = go_never _ _ _ _ _ _ _ _ c.degree_in-near.ensures c.degree_in.ensures (free (goal.at.returns-in_default c).Else-is_some) (λ e. omega arith) (λ e. omega arith)
+returns-in_default c =
+    let edges = c.args.self.now.edges.now in
+    go_never _ edges.conflicts edges.stitches _ _ _ _ _ c.degree_in-near.ensures c.degree_in.ensures (free (goal.at.returns-in_default c).Else-is_some) (λ e. omega arith) (λ e. omega arith)
