@@ -36,7 +36,7 @@ pub fn decompose(layer: &ValidLayer, masks: &mut [u8]) -> Decomposition
     let all = units::layer_units(layer, &mut edges, units);
     let mut noted = [Piece::UNSET; 512];
     let given = units::fixed_masks_of(layer.pieces);
-    units::note_masks(units, &given[..layer.pieces.len()], &mut noted);
+    units::note_masks(units, given.as_slice(), &mut noted);
     let graph = UnitGraph {
         edges: &edges,
         units,

@@ -29,9 +29,9 @@ pub fn write_result(buffer: &mut [u8], res: Decomposition, masks: &[u8]) -> usiz
     let mut out = Writer::new(buffer);
     out.bytes(verdict_line(res.verdict));
     out.number_lines(&[
-        (b"conflicts=", res.conflicts),
-        (b"stitches=", res.stitches),
-        (b"cost=", res.cost),
+        (b"conflicts=", res.score.conflicts),
+        (b"stitches=", res.score.stitches),
+        (b"cost=", res.score.cost),
         (b"steps=", res.steps),
     ]);
     for mask in masks {

@@ -1,11 +1,10 @@
 -- The questions of given masks, and the score after them. Assumes nothing: these are definitions.
-use Rattle.std.specs.Prelude.{Bool, not, ◌||◌, List, ℕ, eqb, ltb, length}
+use Rattle.std.specs.Prelude.{not, ◌||◌, List, ℕ, ltb, length}
 use Rattle.rules.specs.declared.layer.Settings.{Settings}
 use Rattle.rules.specs.declared.layer.Piece.{Piece}
 use Rattle.rules.specs.declared.answers.Scoring.{Scoring}
 use Rattle.rules.specs.declared.refusal.Place.{Place}
 use Rattle.rules.specs.Edges.{graph_of}
-use Rattle.rules.specs.Settings.{unset}
 use Rattle.rules.specs.Score.{mask_of, is_set, cost_of, score_of, pairs_of}
 use Rattle.rules.specs.Units.{unit_of}
 use Rattle.rules.specs.Questions.{Outcome, done, ask, and_then, ask_each}

@@ -1,5 +1,5 @@
 -- `decompose`: the units of the layer and their fixed masks, their decomposition, a mask for each piece and the score are the run. Assumes nothing.
-use mathlib.Core.Path.{refl}
+use mathlib.Core.Path.{refl, ◌∙◌}
 use native.Mathlib.Omega.{arith}
 use Rattle.rules.specs.Settings.{fixed_masks}
 use Rattle.rules.proofs.Validity.{layer_facts}
@@ -13,7 +13,7 @@ use Rattle.decomposer.proofs.run.decompose.Goals.{After-note_masks}
 
 pub note_masks-requires : goal.note_masks-requires
 note_masks-requires c =
-    rw (c.fixed_masks_of-given.ensures, masks_length c.args.layer.now.pieces.now)
+    rw (c.as_slice.ensures.value, c.fixed_masks_of-given.ensures, masks_length c.args.layer.now.pieces.now)
     (record {
       masks_len_bound = (layer_facts _ _ c.args.layer.now.valid).few;
       units_len = omega (arith, c.layer_units-all.ensures.units_of.whole);
@@ -22,7 +22,7 @@ note_masks-requires c =
 
 -- the fixed masks of the pieces were noted of their units
 noted : (c : After-note_masks) → NotedMasks (unit_at c.layer_units-all.new.units) (fixed_masks c.args.layer.now.pieces.now) c.note_masks.new.noted c.note_masks.result
-noted c = rw c.fixed_masks_of-given.ensures at c.note_masks.ensures
+noted c = rw (c.as_slice.ensures.value ∙ c.fixed_masks_of-given.ensures) at c.note_masks.ensures
 
 pub decompose_units-searched-requires : goal.decompose_units-searched-requires
 decompose_units-searched-requires c =
