@@ -4,21 +4,20 @@ ghost use Rattle.rules.specs.Answers.{answer_of, length_of};
 ghost use Rattle.rules.specs.Calls.{decompose_read, decompose_text, decompose_stream, buffer_after};
 ghost use Rattle.rules.specs.Decomposition.{run};
 ghost use Rattle.rules.specs.Demands.{Demand3OfText, Demand3OfStream};
-ghost use Rattle.rules.specs.Questions.{Valid};
 ghost use Rattle.loader.specs.Read.{outcome_of, Judged};
 ghost use Rattle.loader.specs.Written.{Wrote};
 
-use rules::{LayerRead, Piece, Place, Refusal, Refused, Settings};
+use rules::{LayerRead, Piece, Place, Refusal, Refused, ValidLayer};
 
-// Runs a judged layer, and writes the result text at the buffer's front.
-fn write_run(settings: Settings, pieces: &[Piece], buffer: &mut [u8]) -> usize
-    requires valid { Valid settings pieces.now }
-    requires in_bounds { 4_096 ≤ length buffer.old }
-    ensures { Wrote (run settings pieces.now) buffer.old result buffer.new }
+// Runs a layer, and writes the result text at the buffer's front.
+#[tactic(auto, using(rules::proofs::Validity::layer_facts))]
+fn write_run(layer: &ValidLayer, buffer: &mut [u8]) -> usize
+    requires { 4_096 ≤ length buffer.old }
+    ensures { Wrote (run layer.now.settings layer.now.pieces.now) buffer.old result buffer.new }
 {
     let mut all = [0u8; Piece::COUNT_GREATEST];
-    let masks = &mut all[..pieces.len()];
-    let result = decomposer::decompose(settings, pieces, masks);
+    let masks = &mut all[..layer.pieces.len()];
+    let result = decomposer::decompose(layer, masks);
     result_writer::write_result(buffer, result, masks)
 }
 
@@ -33,7 +32,11 @@ fn write_read(read: LayerRead, buffer: &mut [u8]) -> Result<usize, Refused>
         return Err(Refusal::Buffer.at(Place::Nothing));
     }
     read.answer?;
-    Ok(write_run(read.settings, &read.pieces[..read.count], buffer))
+    let layer = ValidLayer {
+        settings: read.settings,
+        pieces: read.lent(),
+    };
+    Ok(write_run(&layer, buffer))
 }
 
 // The result text of the layer that a text states, or the first of the refusals 1 to 6, 13 and 14 and the buffer as it
