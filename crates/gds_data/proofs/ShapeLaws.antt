@@ -3,18 +3,19 @@
 use mathlib.Core.Bool.{Bool, true, false}
 use mathlib.Core.List.{List, [], ◌∷◌}
 use mathlib.Core.Path.{◌≡◌, refl, sym, ap, ◌∙◌}
-use Prim.Native.Nat.{ℕ, zero, suc, ◌<◌, min}
+use Prim.Native.Nat.{ℕ, zero, suc, ◌≤◌, ◌<◌, min}
 use native.Mathlib.Omega.{arith}
 use lib.Dec.{eqb}
-use lib.ListN.{length, get_or, take}
+use mathlib.Core.Option.{none, some}
+use lib.ListN.{length, get_or, take, drop, length-drop, drop_of_length-le}
 use lib.Seq.{take_all}
 use borrow.Author.Tests.{eq-eqb, ne_eqb}
 use Rattle.std.proofs.Common.{Option, Some, None, if◌then◌else◌, is_some}
 use Rattle.std.specs.Bool.{then_some}
 use Rattle.rules.specs.Lines.{is_digit, all_digits, is_numeral, value}
+use Rattle.rules.specs.Questions.{NumberRead}
 use Rattle.rules.specs.Stream.{unfilled}
 use Rattle.rules.proofs.Tests.{by_test, both, clash}
-use Rattle.numerals.specs.declared.Numeral.{Numeral}
 use Rattle.numerals.specs.Numerals.{cap, digits_in, digits_of, numeral_of}
 use Rattle.numerals.proofs.Digits.{numeral_digits}
 
@@ -52,31 +53,35 @@ abbrev shape : List ℕ → Option ℕ
 shape s = if is_numeral s then Some (min (value s) cap) else None
 
 -- a numeral is read whole
-numeral_whole : (s : List ℕ) → is_numeral s ≡ true → numeral_of s ≡ Some (record { value = min (value s) cap; digits = length s })
+numeral_whole : (s : List ℕ) → is_numeral s ≡ true → numeral_of s ≡ some (record { number = min (value s) cap; rest = [] })
 unfolding numeral_of
 numeral_whole s t =
-    let all = counted s (numeral_digits s t) in
-    rw (take_all (digits_in s) s (omega (arith, all)), t, all)
+    let all : length s ≤ digits_in s = omega (arith, counted s (numeral_digits s t)) in
+    rw (take_all (digits_in s) s all, t, drop_of_length-le s all)
 
-pub no_numeral : (s : List ℕ) → numeral_of s ≡ None → None ≡ shape s
+pub no_numeral : (s : List ℕ) → numeral_of s ≡ none → None ≡ shape s
 no_numeral s e = by_test (is_numeral s) (λ t. cc (numeral_whole s t)) (λ f. rw f)
 
--- and digits to the last one that were read are a numeral
-read_whole : (s : List ℕ) (n : Numeral) → numeral_of s ≡ Some n → n.digits ≡ length s → is_numeral s ≡ true
-unfolding numeral_of
-read_whole s n e all = by_test (is_numeral (digits_of s))
-    (λ t. let e' = rw t at e in
-    let count : n.digits ≡ digits_in s = cc e' in
-    rw (take_all (digits_in s) s (omega arith)) at t)
-    (λ f. let e' = rw f at e in cc e')
+module _ (s : List ℕ) (r : NumberRead) (e : numeral_of s ≡ some r) where
+  -- digits with nothing after them are a numeral
+  read_whole : length r.rest ≡ 0 → is_numeral s ≡ true
+  unfolding numeral_of
+  read_whole none-left = by_test (is_numeral (digits_of s))
+      (λ t. let e' = rw t at e in
+      let after : r.rest ≡ drop (digits_in s) s = cc e' in
+      rw (take_all (digits_in s) s (omega (arith, length-drop (digits_in s) s, ap length after))) at t)
+      (λ f. let e' = rw f at e in cc e')
 
-pub shape_told : (s : List ℕ) (n : Numeral) → numeral_of s ≡ Some n → then_some (eqb n.digits (length s)) n.value ≡ shape s
-shape_told s n e = by_test (is_numeral s)
-    (λ t. let told = sym e ∙ numeral_whole s t in
-    let all : n.digits ≡ length s = cc told in
-    let value : n.value ≡ min (value s) cap = cc told in
-    rw (t, eq-eqb n.digits (length s) all, value))
-    (λ f. rw (f, ne_eqb n.digits (length s) λ all. clash (read_whole s n e all) f))
+  told_whole : then_some (eqb (length r.rest) 0) r.number ≡ shape s
+  told_whole = by_test (is_numeral s)
+      (λ t. let told = sym e ∙ numeral_whole s t in
+      let none-left : r.rest ≡ [] = cc told in
+      let same : r.number ≡ min (value s) cap = cc told in
+      rw (t, none-left, same))
+      (λ f. rw (f, ne_eqb (length r.rest) 0 λ none-left. clash (read_whole none-left) f))
+
+pub shape_told : (s rest : List ℕ) (number : ℕ) → numeral_of s ≡ some (record { number = number; rest = rest }) → then_some (eqb (length rest) 0) number ≡ shape s
+shape_told s rest number = told_whole s (record { number = number; rest = rest })
 
 -- ---- Whether there is a shape
 

@@ -1,5 +1,6 @@
 // The data of GDSII records: numbers in bytes, and the unit, rectangle and shape number that they state (RULES 16). The crate `gds_records`
-// asks of a record's data what is due, and `gds_elements` takes the pieces from them.
+// asks of a record's data what is due, and `gds_elements` takes the pieces from them. Data of one length are slices here, as a record's data are: an
+// array would be a second view of them at each caller, whose failure had to be proved away.
 #![tactic(auto)]
 
 mod rectangle;

@@ -23,9 +23,8 @@ fn unfilled(bytes: &[u8]) -> &[u8]
 fn read_shape(bytes: &[u8]) -> Option<u32>
     ensures { result ≡ shape_of bytes.now }
 {
-    let digits = unfilled(bytes);
-    let numeral = read_numeral(digits)?;
-    (numeral.digits == digits.len()).then_some(numeral.value)
+    let numeral = read_numeral(unfilled(bytes))?;
+    numeral.rest.is_empty().then_some(numeral.value)
 }
 
 // Whether the bytes state one.

@@ -1,4 +1,4 @@
-// Numbers in bytes, the highest byte first.
+// Numbers in bytes, the highest byte first. One function for each size: `from_be_bytes` stands at each type by itself, and no trait has it.
 ghost use Rattle.std.specs.Prelude.{◌≡◌, ◌+◌, ◌≤◌, length};
 ghost use Rattle.rules.specs.Stream as rules;
 

@@ -2,36 +2,31 @@
 // that starts where it reads.
 ghost use Rattle.std.specs.Prelude.{◌≡◌, ◌≤◌};
 ghost use Rattle.rules.specs.Lines.{parts_of, numbers_of, line_of};
+ghost use Rattle.numerals.specs.Numerals.{numeral_as};
 ghost use Rattle.lines.specs.ReadLines.{next_numeral, numbers_read, line_as, line_read};
 
 use numerals::{Numeral, read_numeral};
 
-// A comma and the numeral after it, which is one byte longer with its comma.
-fn read_next(text: &[u8]) -> Option<Numeral>
-    ensures { result ≡ next_numeral text.now }
+// A comma and the numeral after it.
+fn read_next(text: &[u8]) -> Option<Numeral<'_>>
+    ensures { numeral_as result ≡ next_numeral text.now }
 {
-    let numeral = read_numeral(text.strip_prefix(b",")?)?;
-    Some(Numeral {
-        digits: numeral.digits + 1,
-        ..numeral
-    })
+    read_numeral(text.strip_prefix(b",")?)
 }
 
-// Numbers with a comma between two, to the text's end.
+// Numbers with a comma between two, to the text's end. By index: no part of an array whose length is a const parameter can be lent to a loop.
 fn read_numbers<const N: usize>(text: &[u8]) -> Option<[u32; N]>
     requires { 1 ≤ N }
     ensures { result ≡ numbers_read (numbers_of N (parts_of text.now)) }
 {
-    let first = read_numeral(text)?;
+    let mut numeral = read_numeral(text)?;
     let mut values = [0u32; N];
-    values[0] = first.value;
-    let mut at = first.digits;
+    values[0] = numeral.value;
     for k in 1..N {
-        let next = read_next(&text[at..])?;
-        values[k] = next.value;
-        at += next.digits;
+        numeral = read_next(numeral.rest)?;
+        values[k] = numeral.value;
     }
-    (at == text.len()).then_some(values)
+    numeral.rest.is_empty().then_some(values)
 }
 
 // A line that was read: its numbers, each up to the cap, and the text after it.

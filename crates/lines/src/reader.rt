@@ -8,8 +8,8 @@ ghost use Rattle.lines.specs.Readers.{answer_as, capped_line};
 use crate::read::read_line;
 use rules::{Place, Refusal, Refused};
 
-// What is left of the text, and the number of its first line. That the number has room is asked where a line is read: a header is read from a
-// text of any length, which can be longer than a number of lines goes.
+// What is left of the text, and the number of its first line. No ghost field says that the number has room: a header is read from a text of any
+// length, and that may have more lines than 32 bits count. So each function that reads a line asks for room.
 #[derive(Clone, Copy)]
 pub struct Reader<'a> {
     pub rest: &'a [u8],

@@ -6,11 +6,12 @@ use Prim.Native.Nat.{ℕ, zero, suc, ◌+◌, ◌-◌, ◌*◌, ◌≤◌, ◌<�
 use native.Mathlib.Numerals.{add-one}
 use native.Mathlib.Omega.{arith}
 use lib.Dec.{eqb}
-use lib.ListN.{length, get_or, take}
-use Rattle.std.proofs.Common.{Some, None, ◌⊎◌, inl, inr}
+use lib.ListN.{length, get_or, take, drop}
+use mathlib.Core.Option.{none, some}
+use Rattle.std.proofs.Common.{◌⊎◌, inl, inr}
 use Rattle.std.proofs.lemmas.Bool.{cases_lt}
 use Rattle.std.specs.List.{prefix_len}
-use lib.Seq.{take-suc, length-take-le}
+use lib.Seq.{take-suc}
 use borrow.Author.Tests.{eq-eqb, ne_eqb}
 use Rattle.rules.specs.Lines.{digit0, is_digit, all_digits, is_numeral, value}
 use Rattle.numerals.specs.Numerals.{cap, digits_in, digits_of, numeral_of}
@@ -77,10 +78,6 @@ numeral_digits [] h = refl
 numeral_digits (b ∷ []) h = rw h
 numeral_digits (b ∷ c ∷ ds) h = (both (not (eqb b digit0)) (all_digits (b ∷ c ∷ ds)) h).1
 
--- ---- What is read, by the tests of the reader
-
--- ---- What is read, by the tests of the reader
-
 -- the digits that a text starts with are those that pass the test
 pub digits_in_prefix : (s : List ℕ) → digits_in s ≡ prefix_len is_digit s
 unfolding digits_in
@@ -93,33 +90,34 @@ digits_in_prefix (b ∷ s) = go (is_digit b) refl (digits_in_prefix s)
 
 -- ---- What is read, by the tests of the reader
 
-module _ (s : List ℕ) (n : ℕ) (count : n ≡ digits_in s) where
-  pub read_length : length (take n s) ≡ n
-  read_length = length-take-le n s (omega (arith, digits_within s))
+-- the digits that a text starts with, and the text after them
+pub record DigitsFirst (s digits rest : List ℕ) : Type 0 where
+  pub front : digits ≡ digits_of s
+  pub back : rest ≡ drop (digits_in s) s
 
-  pub read_digits : all_digits (take n s) ≡ true
-  read_digits = rw count (all_digits_lem s)
+module _ {s digits rest : List ℕ} (split : DigitsFirst s digits rest) where
+  pub read_digits : all_digits digits ≡ true
+  read_digits = rw split.front (all_digits_lem s)
 
-  pub read_none : length (take n s) < 1 → None ≡ numeral_of s
+  pub read_none : length digits < 1 → none ≡ numeral_of s
   unfolding numeral_of
-  read_none h = rw (none_bad (digits_of s) (omega (arith, ap (λ (m : ℕ). length (take m s)) count)))
+  read_none h = rw (none_bad (digits_of s) (omega (arith, ap length split.front)))
 
-  pub read_zero_first : 2 ≤ length (take n s) → get_or (take n s) 0 0 ≡ digit0 → None ≡ numeral_of s
+  pub read_zero_first : 2 ≤ length digits → get_or digits 0 0 ≡ digit0 → none ≡ numeral_of s
   unfolding numeral_of
   read_zero_first h e =
-      let same : take n s ≡ digits_of s = ap (λ (m : ℕ). take m s) count in
-      rw (zero_first_bad (digits_of s) (omega (arith, ap length same)) (ap (λ (l : List ℕ). get_or l 0 0) (sym same) ∙ e))
+      rw (zero_first_bad (digits_of s) (omega (arith, ap length split.front)) (ap (λ (l : List ℕ). get_or l 0 0) (sym split.front) ∙ e))
 
-  pub read_good : is_numeral (take n s) ≡ true → Some (record { value = min (value (take n s)) cap; digits = n }) ≡ numeral_of s
+  read_good : is_numeral digits ≡ true → some (record { number = min (value digits) cap; rest = rest }) ≡ numeral_of s
   unfolding numeral_of
-  read_good good = rw count (rw (← count, good))
+  read_good good = rw (← split.front, good, split.back)
 
-  pub read_one : 1 ≤ length (take n s) → length (take n s) < 2 → Some (record { value = min (value (take n s)) cap; digits = n }) ≡ numeral_of s
-  read_one some h = read_good (one_good (take n s) read_digits (omega arith))
+  pub read_one : 1 ≤ length digits → length digits < 2 → some (record { number = min (value digits) cap; rest = rest }) ≡ numeral_of s
+  read_one low h = read_good (one_good digits read_digits (omega arith))
 
-  pub read_more : 1 ≤ length (take n s) → (get_or (take n s) 0 0 ≡ digit0 → ⊥) → Some (record { value = min (value (take n s)) cap; digits = n }) ≡ numeral_of s
-  read_more some other = read_good (go (cases_lt (length (take n s)) 2))
+  pub read_more : 1 ≤ length digits → (get_or digits 0 0 ≡ digit0 → ⊥) → some (record { number = min (value digits) cap; rest = rest }) ≡ numeral_of s
+  read_more low other = read_good (go (cases_lt (length digits) 2))
     where
-      go : (length (take n s) < 2) ⊎ (2 ≤ length (take n s)) → is_numeral (take n s) ≡ true
-      go (inl h) = one_good (take n s) read_digits (omega arith)
-      go (inr h) = more_good (take n s) read_digits (omega arith) other
+      go : (length digits < 2) ⊎ (2 ≤ length digits) → is_numeral digits ≡ true
+      go (inl h) = one_good digits read_digits (omega arith)
+      go (inr h) = more_good digits read_digits (omega arith) other

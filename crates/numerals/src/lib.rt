@@ -4,13 +4,13 @@
 
 ghost use Rattle.std.specs.Prelude.{true, ◌≡◌, min};
 ghost use Rattle.rules.specs.Lines.{all_digits, value};
-ghost use Rattle.numerals.specs.Numerals.{cap, digits_in, numeral_of};
+ghost use Rattle.numerals.specs.Numerals.{cap, digits_in, numeral_as, numeral_of};
 
-// A numeral at the start of a text: its value and the number of its digits.
+// A numeral at the start of a text: its value, and the text after it.
 #[derive(Clone, Copy)]
-pub struct Numeral {
+pub struct Numeral<'a> {
     pub value: u32,
-    pub digits: usize,
+    pub rest: &'a [u8],
 }
 
 // How many digits the text starts with.
@@ -33,17 +33,16 @@ fn value_of(digits: &[u8]) -> u32
 }
 
 // The numeral that the text starts with.
-pub fn read_numeral(text: &[u8]) -> Option<Numeral>
-    ensures { result ≡ numeral_of text.now }
+pub fn read_numeral(text: &[u8]) -> Option<Numeral<'_>>
+    ensures { numeral_as result ≡ numeral_of text.now }
 {
-    let digits = leading_digits(text);
-    let number = &text[..digits];
-    match number {
+    let (digits, rest) = text.split_at(leading_digits(text));
+    match digits {
         [] => None,
         [b'0', _, ..] => None,
         _ => Some(Numeral {
-            value: value_of(number),
-            digits,
+            value: value_of(digits),
+            rest,
         }),
     }
 }

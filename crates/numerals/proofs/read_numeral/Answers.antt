@@ -1,30 +1,29 @@
 -- `read_numeral`: the tests of the digits that the text starts with. Assumes nothing.
-use Rattle.std.proofs.Common.{Option, Some, ap, arith, rules, sym, ◌∙◌, ◌≤◌, length, take, ℕ}
-use Rattle.numerals.specs.declared.Numeral.{Numeral}
-use Rattle.numerals.proofs.Digits.{read_length, read_digits, read_none, read_zero_first, read_one, read_more}
+use Rattle.std.proofs.Common.{arith, rules, ◌≤◌, length}
+use Rattle.numerals.proofs.Digits.{DigitsFirst, digits_within, read_digits, read_none, read_zero_first, read_one, read_more}
 use Rattle.numerals.proofs.read_numeral.Goals as goal
-use Rattle.numerals.proofs.read_numeral.Goals.{in_default-via-then-number-lt2, in_default-via-else-number-lt2+in_default-1}
+use Rattle.numerals.proofs.read_numeral.Goals.{After-split_at, in_default-via-then-digits-lt2, in_default-via-else-digits-lt2+in_default-1}
 
-abbrev some_of : ℕ → ℕ → Option Numeral
-some_of v n = Some (record { value = v; digits = n })
+pub split_at-requires : goal.split_at-requires
+split_at-requires c = omega (arith, digits_within c.args.text.now)
 
-pub slice_bounds-number-end : goal.slice_bounds-number-end
-slice_bounds-number-end c = sym (read_length _ _ c.leading_digits-digits.ensures)
+split : (c : After-split_at) → DigitsFirst c.args.text.now c.split_at.result.0.now c.split_at.result.1.now
+split c = record { front = rw (← c.leading_digits.ensures) c.split_at.ensures.front; back = rw (← c.leading_digits.ensures) c.split_at.ensures.back }
 
 pub value_of-requires : goal.value_of-requires
-value_of-requires c = read_digits _ _ c.leading_digits-digits.ensures
+value_of-requires c = read_digits (split (goal.at.value_of-requires c).After-split_at)
 
 pub returns-in_default : goal.returns-in_default
 returns-in_default c =
-    let some : 1 ≤ length (take c.leading_digits-digits.result c.args.text.now) = search rules in
-    ap (λ (v : ℕ). some_of v c.leading_digits-digits.result) c.value_of.ensures
-    ∙ elim c.in_default.branch [
-      | in_default-via-then-number-lt2 w ↦ read_one _ _ c.leading_digits-digits.ensures some (search rules)
-      | in_default-via-else-number-lt2+in_default-1 w ↦ read_more _ _ c.leading_digits-digits.ensures some (λ e. omega arith)
+    let s = split (goal.at.returns-in_default c).After-split_at in
+    let some-there : 1 ≤ length c.split_at.result.0.now = search rules in
+    rw c.value_of.ensures elim c.in_default.branch [
+      | in_default-via-then-digits-lt2 w ↦ read_one s some-there (search rules)
+      | in_default-via-else-digits-lt2+in_default-1 w ↦ read_more s some-there (λ e. omega arith)
     ]
 
 pub returns-in-empty : goal.returns-in-empty
-returns-in-empty c = read_none _ _ c.leading_digits-digits.ensures c.in-empty.len_below
+returns-in-empty c = read_none (split (goal.at.returns-in-empty c).After-split_at) c.in-empty.len_below
 
 pub returns-in-48 : goal.returns-in-48
-returns-in-48 c = read_zero_first _ _ c.leading_digits-digits.ensures c.in-48.len_at_least (omega arith)
+returns-in-48 c = read_zero_first (split (goal.at.returns-in-48 c).After-split_at) c.in-48.len_at_least (omega arith)

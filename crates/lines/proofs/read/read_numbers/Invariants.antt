@@ -3,4 +3,4 @@ use Rattle.lines.proofs.NumberParts.{ReadSoFar}
 use Rattle.lines.proofs.read.read_numbers.Given as goal
 
 abbrev pub invariant-loop-k : goal.invariant-loop-k
-invariant-loop-k g l = ReadSoFar l.text g.row.N l.values l.at l.k
+invariant-loop-k g l = ReadSoFar l.text g.row.N l.values l.numeral.rest.now l.k
