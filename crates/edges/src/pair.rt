@@ -1,7 +1,8 @@
-// What two pieces are to each other: whether they overlap, how far they are apart, how far they touch, and the edge between them (RULES 2 and 17).
+// What two pieces are to each other: whether they overlap, how far they are apart, how far they touch, and the edge between them (RULES 2 and 17). The
+// settings and the two pieces are handed on as three values: a struct of them would be made for each pair, and its fields named in each body.
 ghost use Rattle.std.specs.Prelude.{true, ◌≡◌, ◌*◌, ◌≤◌};
 ghost use Rattle.rules.specs.Settings.{settings_in_range, piece_in_range};
-ghost use Rattle.rules.specs.Edges.{overlapping, overlap_x, overlap_y, contact, squared_gap, conflict_edge, stitch_edge, tied, edge_of};
+ghost use Rattle.rules.specs.Edges.{overlapping, contact, squared_gap, conflict_edge, stitch_edge, tied, edge_of};
 
 use crate::distance::Interval;
 use rules::{Edge, Piece, Settings};
@@ -11,26 +12,13 @@ use rules::{Edge, Piece, Settings};
 pub fn pieces_overlap(a: Piece, b: Piece) -> bool
     ensures { result ≡ overlapping a b }
 {
-    a.shape == b.shape && 0 < overlap_x(a, b) && 0 < overlap_y(a, b)
-}
-
-// How far they overlap in X.
-#[tactic(auto, unfolding(rules::specs::Edges::overlap_x))]
-fn overlap_x(a: Piece, b: Piece) -> u32
-    ensures { result ≡ overlap_x a b }
-{
-    Interval::in_x(a).overlap(Interval::in_x(b))
-}
-
-// And in Y.
-#[tactic(auto, unfolding(rules::specs::Edges::overlap_y))]
-fn overlap_y(a: Piece, b: Piece) -> u32
-    ensures { result ≡ overlap_y a b }
-{
-    Interval::in_y(a).overlap(Interval::in_y(b))
+    a.shape == b.shape
+        && 0 < Interval::in_x(a).overlap(Interval::in_x(b))
+        && 0 < Interval::in_y(a).overlap(Interval::in_y(b))
 }
 
 // The square of a length. That of the greatest coordinate does not fit 32 bits.
+#[tactic(auto, using(crate::proofs::Squares::square))]
 fn square(x: u32) -> u64
     requires { x ≤ 1000000 }
     ensures { result ≡ x * x }
@@ -40,6 +28,7 @@ fn square(x: u32) -> u64
 }
 
 // The squared distance of two pieces.
+#[tactic(auto, using(rules::proofs::Ranges::piece_facts, crate::proofs::Squares::square), unfolding(rules::specs::Edges::squared_gap, rules::specs::Edges::gap_x, rules::specs::Edges::gap_y))]
 fn squared_gap(a: Piece, b: Piece) -> u64
     requires a_value { piece_in_range a ≡ true }
     requires b_value { piece_in_range b ≡ true }
@@ -66,10 +55,12 @@ fn conflict(settings: Settings, a: Piece, b: Piece) -> bool
 fn contact_length(a: Piece, b: Piece) -> u32
     ensures { result ≡ contact a b }
 {
-    if Interval::in_x(a).meets(Interval::in_x(b)) {
-        overlap_y(a, b)
-    } else if Interval::in_y(a).meets(Interval::in_y(b)) {
-        overlap_x(a, b)
+    let (ax, bx) = (Interval::in_x(a), Interval::in_x(b));
+    let (ay, by) = (Interval::in_y(a), Interval::in_y(b));
+    if ax.meets(bx) {
+        ay.overlap(by)
+    } else if ay.meets(by) {
+        ax.overlap(bx)
     } else {
         0
     }
