@@ -28,7 +28,7 @@ module _ (text : List ℕ) (lineNo least n K : ℕ) where
   unfolding read_fixed
   fixed_form number place e = sym (rw (line_refused _ number place e, read_fixed))
 
-  module _ (low : least ≤ 512) (few : n ≤ 512) (masks : K ≤ 8) (values rest : List ℕ) (read : done (record { numbers = values; rest = rest }) ≡ capped_line (read_line (ascii "fixed=") 2 lineNo text)) where
+  module _ (low : least ≤ cap) (values rest : List ℕ) (read : done (record { numbers = values; rest = rest }) ≡ capped_line (read_line (ascii "fixed=") 2 lineNo text)) where
     there : LineThere (read_line (ascii "fixed=") 2 lineNo text) values rest
     there = line_there _ values rest read
 
@@ -48,15 +48,15 @@ module _ (text : List ℕ) (lineNo least n K : ℕ) where
     unfolding read_fixed
     fixed_back h = sym (rw (there.found, read_fixed, lt-leb least piece (omega (arith, piece_up_to))))
 
-    module _ (rising : least ≤ get_or values 0 0) where
+    module _ (rising : least ≤ get_or values 0 0) (few : n ≤ cap) (masks : K ≤ cap) where
       risen : leb least piece ≡ true
       risen = le-leb least piece (omega (arith, piece_up_to))
 
       piece_below : ltb piece n ≡ ltb (get_or values 0 0) n
-      piece_below = sym (ap (λ (x : ℕ). ltb x n) piece_up_to ∙ cap_below piece n (omega arith))
+      piece_below = sym (ap (λ (x : ℕ). ltb x n) piece_up_to ∙ cap_below piece n few)
 
       mask_below : ltb mask K ≡ ltb (get_or values 1 0) K
-      mask_below = sym (ap (λ (x : ℕ). ltb x K) mask_up_to ∙ cap_below mask K (omega arith))
+      mask_below = sym (ap (λ (x : ℕ). ltb x K) mask_up_to ∙ cap_below mask K masks)
 
       pub fixed_out : (n ≤ get_or values 0 0) ⊎ (K ≤ get_or values 1 0) → refused 13 (Place.Line lineNo) ≡ read_fixed K n least lineNo text
       unfolding read_fixed

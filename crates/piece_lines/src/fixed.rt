@@ -12,24 +12,28 @@ use rules::{Refusal, Refused};
 // A piece and the mask that a line fixes for it.
 #[derive(Clone, Copy)]
 struct Fixed {
-    piece: usize,
+    piece: u32,
     mask: u8,
 }
 
 // The next line, which is to fix the mask of one of the pieces from the least on.
-fn read_fixed(reader: &mut Reader, least: usize, count: usize, masks: u32) -> Result<Fixed, Refused>
-    requires bounds { (least ≤ 512) × (count ≤ 512) × (masks ≤ 8) }
+fn read_fixed(
+    reader: &mut Reader,
+    least: u32,
+    pieces: &Pieces,
+    masks: u32,
+) -> Result<Fixed, Refused>
+    requires masks { masks ≤ 8 }
     requires room { reader.old.line < 4_294_967_295 }
-    ensures fixed { answer_as {B = FixedRead} (λ f. record { piece = f.piece; mask = f.mask; rest = reader.new.rest.now }) result ≡ read_fixed masks count least reader.old.line reader.old.rest.now }
+    ensures fixed { answer_as {B = FixedRead} (λ f. record { piece = f.piece; mask = f.mask; rest = reader.new.rest.now }) result ≡ read_fixed masks (length pieces.now) least reader.old.line reader.old.rest.now }
     ensures line { OnOk result (reader.new.line ≡ reader.old.line + 1) }
 {
     let place = reader.place();
     let [piece, mask] = reader.next_line::<2>(b"fixed=")?;
-    let piece = piece as usize;
     if piece < least {
         return Err(Refusal::Form.at(place));
     }
-    if count <= piece || masks <= mask {
+    if pieces.len() <= piece as usize || masks <= mask {
         return Err(Refusal::FixedRange.at(place));
     }
     Ok(Fixed {
@@ -51,8 +55,8 @@ pub fn read_all_fixed(
 {
     let mut least = 0;
     while !reader.rest.is_empty() {
-        let fixed = read_fixed(reader, least, pieces.len(), masks)?;
-        pieces.fix(fixed.piece, fixed.mask);
+        let fixed = read_fixed(reader, least, &pieces, masks)?;
+        pieces.fix(fixed.piece as usize, fixed.mask);
         least = fixed.piece + 1;
     }
     Ok(pieces)

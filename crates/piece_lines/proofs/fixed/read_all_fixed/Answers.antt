@@ -9,7 +9,7 @@ use Rattle.piece_lines.proofs.fixed.read_all_fixed.Goals.{In_ok-fixed, After-fix
 facts : (c : In_ok-fixed)
     → let loop = c.loop-reader in
     OneFixed c.args.masks (length loop.pieces) loop.least loop.reader.rest.now (record { piece = c.in_ok-fixed.fixed.piece; mask = c.in_ok-fixed.fixed.mask; rest = c.read_fixed.new.reader.rest.now })
-facts c = fixed_facts _ _ _ _ _ _ (rw c.len.ensures.value at c.in_ok-fixed.ensures.fixed)
+facts c = fixed_facts _ _ _ _ _ _ c.in_ok-fixed.ensures.fixed
 
 pub loop-reader-init : goal.loop-reader-init
 loop-reader-init c = record { many = refl; low = omega arith; line = omega arith; passed = passed_none _ _ _ _ }
@@ -21,14 +21,13 @@ pub returns-in_err-fixed-clause-pieces : goal.returns-in_err-fixed-clause-pieces
 returns-in_err-fixed-clause-pieces c =
     let p = err_from_is_err_and c.from_residual.result c.from_residual.ensures.1 in
     let some : 0 < length c.loop-reader.reader.rest.now = grind arith in
-    let one = rw c.len.ensures.value at c.in_err-fixed.ensures.fixed in
-    rw (p.1, p.2) (passed_stop _ _ _ _ _ _ _ _ c.loop-reader.invariant.passed _ _ some one)
+    rw (p.1, p.2) (passed_stop _ _ _ _ _ _ _ _ c.loop-reader.invariant.passed _ _ some c.in_err-fixed.ensures.fixed)
 
 pub fix-requires : goal.fix-requires
 fix-requires c = (facts (goal.at.fix-requires c).In_ok-fixed).piece
 
 pub overflow_add-least : goal.overflow_add-least
-overflow_add-least c = omega (arith, (facts (goal.at.overflow_add-least c).In_ok-fixed).piece, c.len.ensures.few, c.len.ensures.value)
+overflow_add-least c = omega (arith, (facts (goal.at.overflow_add-least c).In_ok-fixed).piece, c.loop-reader.invariant.many, c.requires.room)
 
 -- as many pieces after the mask was fixed
 same_many : (c : After-fix) → length c.fix.new.self ≡ length c.loop-reader.pieces
@@ -43,12 +42,11 @@ pub loop-reader-preserved : goal.loop-reader-preserved
 loop-reader-preserved c =
     let f = facts (goal.at.loop-reader-preserved c).In_ok-fixed in
     let many = same_many (goal.at.loop-reader-preserved c).After-fix in
-    let one = rw c.len.ensures.value at c.in_ok-fixed.ensures.fixed in
     record {
       many = many ∙ c.loop-reader.invariant.many;
       low = omega (arith, f.piece, many);
       line = omega (arith, c.in_ok-fixed.ensures.line, c.loop-reader.invariant.line, f.risen);
-      passed = rw (c.fix.ensures, c.in_ok-fixed.ensures.line) (passed_one _ _ _ _ _ _ _ _ c.loop-reader.invariant.passed _ one);
+      passed = rw (c.fix.ensures, c.in_ok-fixed.ensures.line) (passed_one _ _ _ _ _ _ _ _ c.loop-reader.invariant.passed _ c.in_ok-fixed.ensures.fixed);
     }
 
 pub returns-clause-pieces : goal.returns-clause-pieces
