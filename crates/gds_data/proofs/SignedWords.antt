@@ -1,4 +1,4 @@
--- Coordinates of four bytes, with and without their sign: two are the same either way. Assumes nothing.
+-- Coordinates of four bytes, with and without their sign: two are the same either way, and the one gives the other back. Assumes nothing.
 use mathlib.Core.Path.{◌≡◌, sym, ap}
 use Prim.Native.Nat.{ℕ, ◌-◌, ◌<◌}
 use native.Mathlib.Omega.{arith}
@@ -7,6 +7,7 @@ use borrow.Author.Tests.{ltb-true, ltb-false, eq-eqb, ne_eqb, eqb-true}
 use Rattle.rules.specs.Stream as rules
 use Rattle.rules.specs.Stream.{signed32}
 use Rattle.rules.proofs.Tests.{by_test, same}
+use Rattle.gds_data.specs.Rectangles.{unsigned32}
 
 pub same_words : (a b : ℕ) → a < 4_294_967_296 → b < 4_294_967_296 → rules.same (signed32 a) (signed32 b) ≡ eqb a b
 same_words a b ha hb =
@@ -19,3 +20,6 @@ same_words a b ha hb =
     (λ high-b. rw (high-a, high-b) (same (eqb (4_294_967_295 - a) (4_294_967_295 - b)) (eqb a b)
     (λ t. eq-eqb a b (omega (arith, eqb-true (4_294_967_295 - a) (4_294_967_295 - b) t)))
     (λ t. eq-eqb (4_294_967_295 - a) (4_294_967_295 - b) (ap (λ (n : ℕ). 4_294_967_295 - n) (eqb-true a b t))))))
+
+pub word_back : (n : ℕ) → n < 4_294_967_296 → unsigned32 (signed32 n) ≡ n
+word_back n h = by_test (ltb n 2_147_483_648) (λ t. rw t) λ f. let high = ltb-false n 2_147_483_648 f in rw f (omega arith)

@@ -1,7 +1,7 @@
 // XY: whether five points go around a rectangle, and the piece of two opposite corners. The four bytes of a coordinate are read without
 // their sign: equal ones stay equal, and a negative one lies above every range.
 ghost use Rattle.std.specs.Prelude.{◌≡◌, ◌+◌, ◌*◌, ◌≤◌, length};
-ghost use Rattle.rules.specs.Stream.{is_rectangle};
+ghost use Rattle.rules.specs.Stream.{is_rectangle, point_at};
 ghost use Rattle.gds_data.specs.Rectangles.{word_point, corner_piece};
 
 use crate::words::word32;
@@ -46,7 +46,7 @@ pub fn is_rectangle(bytes: &[u8]) -> bool
 // The piece between the first point and the third. A stream fixes no masks.
 pub fn piece_from(bytes: &[u8], shape: u32) -> Piece
     requires { length bytes.now ≡ 40 }
-    ensures { result ≡ corner_piece bytes.now shape }
+    ensures { result ≡ corner_piece (point_at bytes.now 0) (point_at bytes.now 2) shape }
 {
     let a = point_at(bytes, 0);
     let c = point_at(bytes, 2);

@@ -1,20 +1,18 @@
--- The elements one after the other: those read so far and those from here on are all of them, and the pieces are like the first 512. Assumes nothing.
+-- The elements one after the other: those read so far and those from here on are all of them, and the pieces are those of the first 512. Assumes nothing.
 use mathlib.Core.Bool.{true, false}
-use mathlib.Core.List.{List, [], ◌∷◌, ◌++◌, append-nil}
-use mathlib.Core.Logic.{◌⊎◌, inl, inr}
+use mathlib.Core.List.{List, [], ◌∷◌, ◌++◌, append-nil, map, map-append}
 use mathlib.Core.Path.{◌≡◌, refl, sym, ap, ◌∙◌}
-use Prim.Native.Nat.{ℕ, zero, suc, ◌+◌, ◌-◌, ◌*◌, ◌≤◌, ◌<◌, min}
+use Prim.Native.Nat.{ℕ, zero, suc, ◌+◌, ◌-◌, ◌*◌, ◌≤◌, ◌<◌}
 use native.Mathlib.Omega.{arith}
-use lib.ListN.{length, get_or, length-append, get_or-append}
-use lib.Seq.{append_snoc, get_or-append_seam}
+use lib.ListN.{length, length-append, take, length-map}
+use lib.Seq.{append_snoc, take_all, take-nil, take-append-le}
+use Rattle.std.proofs.lemmas.List.{length-take}
 use Rattle.rules.specs.declared.layer.Piece.{Piece}
 use Rattle.rules.specs.declared.refusal.Place.{Place}
-use Rattle.rules.specs.Settings.{no_piece, piece_at}
 use Rattle.rules.specs.Questions.{Outcome, done, refused, and_then}
-use Rattle.rules.specs.Stream.{boundary, is_due, Element, read_element, ElementsRead, read_elements, no_element}
-use Rattle.rules.proofs.Tests.{lt_or_ge}
+use Rattle.rules.specs.Stream.{boundary, is_due, Element, read_element, ElementsRead, read_elements}
 use Rattle.stream_theory.proofs.StreamRecords.{formed}
-use Rattle.gds_elements.specs.Elements.{Alike, ElementIs}
+use Rattle.gds_elements.specs.Elements.{stored_piece, ElementIs}
 
 -- elements in front of others
 abbrev pub ahead : List Element → Outcome ElementsRead → Outcome ElementsRead
@@ -37,8 +35,7 @@ pub record SoFar (k : ℕ) (bytes : List ℕ) (next : ℕ) (rest : List ℕ) (n 
   pub counted : length elements ≡ n
   pub few : n + length rest ≤ length bytes
   pub numbered : next ≡ k + 7 * n
-  pub kept : length pieces ≡ min n 512
-  pub alike : (i : ℕ) → i < length pieces → Alike (get_or elements i no_element) (piece_at pieces i)
+  pub kept : pieces ≡ map stored_piece (take 512 elements)
 
 pub none_yet : (k : ℕ) (bytes : List ℕ) → SoFar k bytes k bytes 0 []
 none_yet k bytes =
@@ -49,9 +46,12 @@ none_yet k bytes =
       counted = refl;
       few = omega arith;
       numbered = omega arith;
-      kept = refl;
-      alike = λ i h. absurd (omega arith);
+      kept = ap (map stored_piece) (sym (take-nil 512));
     }
+
+-- as many pieces as elements, up to 512
+pub fewer : {k : ℕ} {bytes : List ℕ} {next : ℕ} {rest : List ℕ} {n : ℕ} {pieces : List Piece} → SoFar k bytes next rest n pieces → length pieces ≤ n
+fewer s = omega (arith, ap length s.kept ∙ length-map (take 512 s.elements) stored_piece, length-take 512 s.elements, s.counted)
 
 -- the pieces after one more element: its piece is kept if there is room
 pub data Kept (pieces : List Piece) (n : ℕ) (p : Piece) : List Piece → Type 0 where
@@ -89,46 +89,23 @@ module _ (k : ℕ) (bytes : List ℕ) (next : ℕ) (rest : List ℕ) (n : ℕ) (
           let seven : 7 + next ≡ then = omega arith in
           first_read ∙ rw (e.read, seven) (ahead_snoc s.elements e.element (read_elements (length bytes - (n + 1)) then after))
 
-      earlier : (i : ℕ) → i < n → get_or all i no_element ≡ get_or s.elements i no_element
-      earlier i h = get_or-append s.elements (e.element ∷ []) no_element i (omega (arith, s.counted))
+      -- a piece is pushed as long as there is room for its element
+      all_kept : (now : List Piece) → Kept pieces n p now → now ≡ map stored_piece (take 512 all)
+      all_kept now (pushed room h) =
+          let size : length all ≡ n + 1 = length-append s.elements (e.element ∷ []) ∙ omega (arith, s.counted) in
+          let before : take 512 s.elements ≡ s.elements = take_all 512 s.elements (omega (arith, s.counted)) in
+          h ∙ rw (take_all 512 all (omega (arith, size)), map-append stored_piece s.elements (e.element ∷ []), s.kept, before, e.piece)
+      all_kept now (full none h) = h ∙ s.kept ∙ ap (map stored_piece) (sym (take-append-le 512 s.elements (e.element ∷ []) (omega (arith, s.counted))))
 
-      newest : get_or all n no_element ≡ e.element
-      newest = ap (λ (i : ℕ). get_or all i no_element) (sym s.counted) ∙ get_or-append_seam s.elements e.element [] no_element
-
-      alike_pushed : n < 512 → (i : ℕ) → i < length (pieces ++ (p ∷ [])) → Alike (get_or all i no_element) (piece_at (pieces ++ (p ∷ [])) i)
-      alike_pushed room i h = go (lt_or_ge i n)
-        where
-          all_kept : length pieces ≡ n
-          all_kept = omega (arith, s.kept)
-
-          go : (i < n) ⊎ (n ≤ i) → Alike (get_or all i no_element) (piece_at (pieces ++ (p ∷ [])) i)
-          go (inl low) = rw (earlier i low, get_or-append pieces (p ∷ []) no_piece i (omega (arith, all_kept))) (s.alike i (omega (arith, all_kept)))
-          go (inr high) =
-              let here : i ≡ length pieces = omega (arith, length-append pieces (p ∷ []), all_kept) in
-              let there : i ≡ n = omega (arith, all_kept) in
-              let last : piece_at (pieces ++ (p ∷ [])) i ≡ p = ap (piece_at (pieces ++ (p ∷ []))) here ∙ get_or-append_seam pieces p [] no_piece in
-              let element : get_or all i no_element ≡ e.element = ap (λ (j : ℕ). get_or all j no_element) there ∙ newest in
-              rw (last, element) e.alike
-
-      module _ (now : List Piece) where
-        all_alike : Kept pieces n p now → (i : ℕ) → i < length now → Alike (get_or all i no_element) (piece_at now i)
-        all_alike (pushed room h) i low = rw h (alike_pushed room i (omega (arith, ap length h)))
-        all_alike (full none h) i low = rw (h, earlier i (omega (arith, ap length h, s.kept))) (s.alike i (omega (arith, ap length h)))
-
-        as_many : Kept pieces n p now → length now ≡ min (n + 1) 512
-        as_many (pushed room h) = omega (arith, ap length h, length-append pieces (p ∷ []), s.kept)
-        as_many (full none h) = omega (arith, ap length h, s.kept)
-
-        pub one_further : Kept pieces n p now → SoFar k bytes then after (n + 1) now
-        one_further t = record {
-          elements = all;
-          read = read_more;
-          counted = length-append s.elements (e.element ∷ []) ∙ omega (arith, s.counted);
-          few = omega (arith, s.few, e.less);
-          numbered = omega (arith, s.numbered);
-          kept = as_many t;
-          alike = all_alike t;
-        }
+      pub one_further : (now : List Piece) → Kept pieces n p now → SoFar k bytes then after (n + 1) now
+      one_further now t = record {
+        elements = all;
+        read = read_more;
+        counted = length-append s.elements (e.element ∷ []) ∙ omega (arith, s.counted);
+        few = omega (arith, s.few, e.less);
+        numbered = omega (arith, s.numbered);
+        kept = all_kept now t;
+      }
 
   module _ (is : is_due boundary rest ≡ false) where
     none_left : (m : ℕ) → read_elements m next rest ≡ done (record { elements = []; rest = rest })

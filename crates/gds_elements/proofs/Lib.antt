@@ -1,3 +1,3 @@
 -- Laws of elements.
-pub mod AlikeLaws
+pub mod StoredLaws
 pub mod CollectLaws

@@ -1,14 +1,12 @@
--- What the readers of elements answer, by the definitions of the rules. A piece of the code has its shape up to the cap and its coordinates without their sign;
--- it is judged as its element is.
-use Rattle.std.specs.Prelude.{true, List, ◌≡◌, ℕ, ◌≤◌, ◌<◌, min, length, get_or, Result}
+-- What the readers of elements answer, by the definitions of the rules. A piece of the code has its shape up to the cap and its coordinates without their sign.
+use Rattle.std.specs.Prelude.{List, map, ◌≡◌, ℕ, ◌≤◌, ◌<◌, min, length, take, Result}
 use Rattle.rules.specs.declared.layer.Piece.{Piece}
-use Rattle.rules.specs.declared.refusal.Place.{Place}
 use Rattle.rules.specs.declared.refusal.Refused.{Refused}
 use Rattle.rules.specs.Lines.{value}
-use Rattle.rules.specs.Settings.{piece_in_range, unset, piece_at}
-use Rattle.rules.specs.Questions.{done, judge_piece}
-use Rattle.rules.specs.Stream.{unfilled, Element, read_property, read_element, read_elements, piece_of, no_element, judge_element}
+use Rattle.rules.specs.Questions.{done}
+use Rattle.rules.specs.Stream.{unfilled, Element, read_property, read_element, read_elements}
 use Rattle.numerals.specs.Numerals.{cap}
+use Rattle.gds_data.specs.Rectangles.{corner_piece}
 use Rattle.gds_records.specs.Records.{Told}
 use Rattle.gds_elements.specs.declared.elements.Elements.{Elements}
 
@@ -26,17 +24,15 @@ PropertyTold k bytes rest = Told (read_property k bytes) (PropertyRead k bytes r
 
 -- ---- An element
 
--- a piece is judged as an element is, is the element's piece where it is in range, and has no fixed mask
-pub record Alike (e : Element) (p : Piece) : Type 0 where
-  pub judged : (place : Place) → judge_piece place p ≡ judge_element place e
-  pub same : piece_in_range p ≡ true → p ≡ piece_of e
-  pub free : p.fixed ≡ unset
+-- the piece of an element as it is stored; one in range is the element's own
+abbrev pub stored_piece : Element → Piece
+stored_piece e = corner_piece e.corner e.opposite (min e.shape cap)
 
--- an element was read, with a piece like it
-pub record ElementIs (k : ℕ) (bytes rest : List ℕ) (piece : Piece) : Type 0 where
+-- an element was read, with its piece
+pub record ElementIs (k : ℕ) (bytes rest : List ℕ) (p : Piece) : Type 0 where
   pub element : Element
   pub read : read_element k bytes ≡ done (record { element = element; rest = rest })
-  pub alike : Alike element piece
+  pub piece : p ≡ stored_piece element
   pub less : length rest < length bytes
 
 abbrev pub ElementTold : ℕ → List ℕ → List ℕ → Result Piece Refused → Type 0
@@ -44,13 +40,12 @@ ElementTold k bytes rest = Told (read_element k bytes) (ElementIs k bytes rest)
 
 -- ---- All elements
 
--- elements were read, with pieces like the first 512
+-- elements were read, with the pieces of the first 512
 pub record Collected (k : ℕ) (bytes rest : List ℕ) (r : Elements) : Type 0 where
   pub elements : List Element
   pub read : read_elements (length bytes) k bytes ≡ done (record { elements = elements; rest = rest })
   pub counted : length elements ≡ r.count
-  pub kept : length r.pieces ≡ min r.count 512
-  pub alike : (i : ℕ) → i < length r.pieces → Alike (get_or elements i no_element) (piece_at r.pieces i)
+  pub kept : r.pieces ≡ map stored_piece (take 512 elements)
 
 abbrev pub ElementsTold : ℕ → List ℕ → List ℕ → Result Elements Refused → Type 0
 ElementsTold k bytes rest = Told (read_elements (length bytes) k bytes) (Collected k bytes rest)

@@ -1,5 +1,5 @@
 // The records of a stream read one after the other.
-ghost use Rattle.std.specs.Prelude.{◌≡◌, ◌+◌, ◌≤◌, length, OnErr, OnOk};
+ghost use Rattle.std.specs.Prelude.{◌≡◌, ◌+◌, ◌<◌, ◌≤◌, length, OnErr, OnOk};
 ghost use Rattle.rules.specs.declared.refusal.Place.{Place};
 ghost use Rattle.rules.specs.Stream.{is_due};
 ghost use Rattle.gds_records.specs.Kinds.{due_of};
@@ -18,6 +18,18 @@ pub struct Records<'a> {
 }
 
 impl<'a> Records<'a> {
+    // From the first record of a stream on.
+    pub fn new(stream: &'a [u8]) -> Records<'a>
+        requires { length stream.now < 4_294_967_295 }
+        ensures rest { result.rest.now ≡ stream.entry.now }
+        ensures number { result.number ≡ 1 }
+    {
+        Records {
+            rest: stream,
+            number: 1,
+        }
+    }
+
     // Where the next record stands.
     pub fn place(&self) -> Place
         ensures { result ≡ Place.Record self.now.number }

@@ -28,8 +28,7 @@ fn due_record(bytes: &[u8], kind: Kind) -> Option<Record<'_>>
     let least = 4 + usize::from(form.least);
     let greatest = 4 + usize::from(form.greatest);
     if size <= bytes.len()
-        && least <= size
-        && size <= greatest
+        && (least..=greatest).contains(&size)
         && size % 2 == 0
         && record_type == form.record_type
         && data_type == form.data_type

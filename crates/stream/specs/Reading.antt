@@ -1,23 +1,22 @@
 -- What the reader of a stream answers, by the definitions of the rules.
-use Rattle.std.specs.Prelude.{List, map, ◌≡◌, ℕ, ◌<◌, min, length, get_or, Result}
+use Rattle.std.specs.Prelude.{List, map, ◌≡◌, ℕ, length, take, Result}
 use Rattle.rules.specs.declared.layer.Piece.{Piece}
 use Rattle.rules.specs.declared.layer.Settings.{Settings}
 use Rattle.rules.specs.declared.refusal.Place.{Place}
 use Rattle.rules.specs.declared.refusal.Refused.{Refused}
 use Rattle.rules.specs.Settings.{piece_at}
 use Rattle.rules.specs.Questions.{Outcome, done, and_then, ask_each, judge_record, Layer, layer_from}
-use Rattle.rules.specs.Stream.{Element, read_stream_elements, piece_of, no_element, judge_elements}
+use Rattle.rules.specs.Stream.{Element, read_stream_elements, piece_of, judge_elements}
 use Rattle.gds_records.specs.Records.{Told}
 use Rattle.gds_elements.specs.declared.elements.Elements.{Elements}
-use Rattle.gds_elements.specs.Elements.{Alike}
+use Rattle.gds_elements.specs.Elements.{stored_piece}
 
--- the stream states elements, with pieces like the first 512
+-- the stream states elements, with the pieces of the first 512
 pub record Held (stream : List ℕ) (r : Elements) : Type 0 where
   pub elements : List Element
   pub read : read_stream_elements stream ≡ done elements
   pub counted : length elements ≡ r.count
-  pub kept : length r.pieces ≡ min r.count 512
-  pub alike : (i : ℕ) → i < length r.pieces → Alike (get_or elements i no_element) (piece_at r.pieces i)
+  pub kept : r.pieces ≡ map stored_piece (take 512 elements)
 
 abbrev pub ElementsTold : List ℕ → Result Elements Refused → Type 0
 ElementsTold stream = Told (read_stream_elements stream) (Held stream)

@@ -30,10 +30,7 @@ pub fn read_stream_elements(stream: &[u8]) -> Result<Elements, Refused>
     requires { length stream.now ≤ 65_536 }
     ensures { ElementsTold stream.now result }
 {
-    let mut records = Records {
-        rest: stream,
-        number: 1,
-    };
+    let mut records = Records::new(stream);
     records.pass(&FRONT)?;
     let elements = read_elements(&mut records)?;
     records.pass(&[Kind::Endstr, Kind::Endlib])?;

@@ -1,7 +1,6 @@
--- `read_element`: the element of both parts, with a piece like it. Assumes nothing.
-use Rattle.std.proofs.Common.{◌≡◌, ◌+◌, arith}
+-- `read_element`: the element of both parts, with its piece. Assumes nothing.
+use Rattle.std.proofs.Common.{◌≡◌, ◌+◌, ◌∙◌, arith}
 use Rattle.rules.specs.Stream.{element_from, read_element}
-use Rattle.gds_elements.proofs.AlikeLaws.{alike}
 use Rattle.gds_elements.proofs.elements.read_element.Goals as goal
 
 pub returns-clause-element : goal.returns-clause-element
@@ -14,6 +13,6 @@ returns-clause-element c =
     record {
       element = element_from points property.digits;
       read = rw (c.in_ok-pass.ensures.records.read, third, c.in_ok-points.ensures.record.read, fourth, property.read);
-      alike = rw (c.piece_from.ensures, property.number) (alike points property.digits);
+      piece = c.piece_from.ensures ∙ rw property.number;
       less = omega (arith, c.in_ok-pass.ensures.records.some, c.in_ok-points.ensures.record.parts, property.less);
     }
