@@ -51,7 +51,7 @@ fn fixed_in_range(limit: u32, mask: u8) -> bool
     mask == Piece::UNSET || u32::from(mask) < limit
 }
 
-// Questions 4, 13 and 5 of one record.
+// Questions 4, 13 and 5 of one record. Not by `judge_piece`: the rules ask 13 of a record between 4 and 5, and of a piece line not at all.
 #[tactic(auto, unfolding(rules::specs::Questions::judge_record))]
 pub fn judge_record(masks: u32, place: Place, p: Piece) -> Result<(), Refused>
     ensures { answer_of result ≡ judge_record masks place p }
@@ -85,12 +85,9 @@ fn overlaps_earlier(pieces: &[Piece], j: usize) -> bool
     ensures { result ≡ any_of (λ i. overlapping (piece_at pieces.now i) (piece_at pieces.now j)) (up_to j) }
 {
     let piece = pieces[j];
-    for earlier in &pieces[..j] {
-        if pieces_overlap(*earlier, piece) {
-            return true;
-        }
-    }
-    false
+    pieces[..j]
+        .iter()
+        .any(|earlier| pieces_overlap(*earlier, piece))
 }
 
 // Question 6 of the pieces.

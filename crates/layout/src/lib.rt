@@ -1,5 +1,5 @@
-// Judging lent records: questions 4 to 6 and 13 of RULES 11. The readers of layer texts and of streams, the question after these, of fixed masks, and the public call
-// on two pieces stand on this crate.
+// Judging lent records: questions 4 to 6 and 13 of RULES 11. The readers of layer texts and of streams stand on this crate, and so does `fixed_masks`, which asks the
+// question after these; by that crate alone the calls on lent records do.
 #![tactic(auto)]
 
 mod judging;
