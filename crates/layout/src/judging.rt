@@ -69,6 +69,7 @@ pub fn judge_record(masks: u32, place: Place, p: Piece) -> Result<(), Refused>
 }
 
 // Questions 4, 13 and 5 of each piece.
+#[tactic(auto, using(rules::proofs::Outcomes::each_next), unfolding(rules::specs::Questions::ask_each))]
 pub fn judge_each(masks: u32, pieces: &[Piece]) -> Result<(), Refused>
     requires { length pieces.now ≤ 512 }
     ensures { answer_of result ≡ ask_each (λ i. judge_record masks (Place.Piece i) (piece_at pieces.now i)) (length pieces.now) }
@@ -91,6 +92,7 @@ fn overlaps_earlier(pieces: &[Piece], j: usize) -> bool
 }
 
 // Question 6 of the pieces.
+#[tactic(auto, using(rules::proofs::Outcomes::each_next, rules::proofs::Outcomes::each_refused), unfolding(rules::specs::Questions::ask_each, rules::specs::Questions::judge_overlaps))]
 pub fn judge_overlaps(pieces: &[Piece]) -> Result<(), Refused>
     requires { length pieces.now ≤ 512 }
     ensures { answer_of result ≡ judge_overlaps pieces.now }
