@@ -8,6 +8,7 @@ ghost use Rattle.lines.specs.ReadLines.{next_numeral, numbers_read, line_as, lin
 use numerals::{Numeral, read_numeral};
 
 // A comma and the numeral after it.
+#[tactic(auto, using(crate::proofs::NumberParts::next_other, crate::proofs::NumberParts::next_comma))]
 fn read_next(text: &[u8]) -> Option<Numeral<'_>>
     ensures { numeral_as result ≡ next_numeral text.now }
 {
@@ -15,6 +16,7 @@ fn read_next(text: &[u8]) -> Option<Numeral<'_>>
 }
 
 // Numbers with a comma between two, to the text's end. By index: no part of an array whose length is a const parameter can be lent to a loop.
+#[tactic(auto, using(crate::proofs::NumberParts::read_nothing, crate::proofs::NumberParts::read_stop, crate::proofs::NumberParts::read_ends))]
 fn read_numbers<const N: usize>(text: &[u8]) -> Option<[u32; N]>
     requires { 1 ≤ N }
     ensures { result ≡ numbers_read (numbers_of N (parts_of text.now)) }
