@@ -47,6 +47,7 @@ impl Matrix {
         requires j_bound { j < 512 }
         ensures { (a b : ℕ) → has_edge self.new a b ≡ (has_edge self.old a b || (eqb a i && eqb b j) || (eqb a j && eqb b i)) }
     {
+        // Both at once: after one of them edges do not go both ways.
         let rows = &mut self.rows;
         rows[i].put(j);
         rows[j].put(i);
