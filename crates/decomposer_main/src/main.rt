@@ -4,7 +4,7 @@
 
 ghost use Rattle.std.specs.Prelude.{◌+◌, ◌<◌, ◌≤◌};
 
-use rules::{Decomposition, Piece, Refused, Settings};
+use rules::{Decomposition, Piece, Refused, Score, Settings};
 use std::env::Env;
 use std::{array, io, str};
 
@@ -14,9 +14,11 @@ fn write_answer(rt: &impl Print, answer: Result<Decomposition, Refused>) -> io::
     match answer {
         Ok(
             Decomposition {
-                conflicts,
-                stitches,
-                cost,
+                score: Score {
+                    conflicts,
+                    stitches,
+                    cost,
+                },
                 steps,
                 verdict,
             },

@@ -3,13 +3,12 @@
 #![tactic(auto)]
 
 ghost use Rattle.std.specs.Prelude.{◌≡◌, length};
-ghost use Rattle.rules.specs.Questions.{Valid};
 
 use adjacency::EdgeSets;
 use bitset::Matrix;
 use core_search::{Limits, Progress, UnitGraph};
 use files::read_all;
-use rules::{Piece, Settings};
+use rules::{Piece, Refused, Settings, ValidLayer};
 use std::io;
 
 // The stages in their order, from number 0 on. The last two stand beside those after `Judgement`, and score masks that are all 0.
@@ -38,6 +37,7 @@ enum Stage {
     EdgeScore,
 }
 
+// Every number asks for a stage, so this is no `TryFrom`.
 impl From<u32> for Stage {
     fn from(number: u32) -> Stage {
         match number {
@@ -67,19 +67,18 @@ fn first_word(edges: &Matrix) -> u64 {
         .fold(0u64, |word, j| word | 1 << j)
 }
 
-// Stages 3 to 6 of a judged layer.
-#[tactic(auto, using(units::proofs::TieUnits::few_pieces, units::proofs::TieUnits::new_front))]
-fn first_stages(last: Stage, settings: Settings, pieces: &[Piece], masks: &mut [u8]) -> u64
-    requires valid { Valid settings pieces.now }
-    requires masks_len { length masks.old ≡ length pieces.now }
+// Stages 3 to 6 of a layer.
+#[tactic(auto, using(rules::proofs::Validity::layer_facts, units::proofs::TieUnits::new_front))]
+fn first_stages(last: Stage, layer: &ValidLayer, masks: &mut [u8]) -> u64
+    requires { length masks.old ≡ length layer.now.pieces.now }
 {
     let mut edges = EdgeSets::empty();
     let mut units = [0u16; 512];
-    let units = &mut units[..pieces.len()];
-    let mut core = units::layer_units(settings, pieces, &mut edges, units);
-    let given = units::fixed_masks_of(pieces);
+    let units = &mut units[..layer.pieces.len()];
+    let mut core = units::layer_units(layer, &mut edges, units);
+    let given = units::fixed_masks_of(layer.pieces);
     let mut fixed = [Piece::UNSET; 512];
-    units::note_masks(units, &given[..pieces.len()], &mut fixed);
+    units::note_masks(units, given.as_slice(), &mut fixed);
     if last == Stage::Edges {
         return first_word(&edges.conflicts);
     }
@@ -88,11 +87,11 @@ fn first_stages(last: Stage, settings: Settings, pieces: &[Piece], masks: &mut [
     if last == Stage::UnitEdges {
         return first_word(&merged.conflicts);
     }
-    let removals = reduction::peel(settings.masks, &merged, &fixed, &mut core);
+    let removals = reduction::peel(layer.settings.masks, &merged, &fixed, &mut core);
     if last == Stage::Peeling {
         return removals.len() as u64;
     }
-    let limits = Limits::from(settings);
+    let limits = Limits::from(layer.settings);
     let mut progress = Progress {
         left: limits.budget,
         stopped: false,
@@ -105,18 +104,16 @@ fn first_stages(last: Stage, settings: Settings, pieces: &[Piece], masks: &mut [
     progress.left
 }
 
-// Stages 7 to 9 of a judged layer.
+// Stages 7 to 9 of a layer.
 fn last_stages(
     rt: &impl Print,
     last: Stage,
-    settings: Settings,
-    pieces: &[Piece],
+    layer: &ValidLayer,
     masks: &mut [u8],
 ) -> io::Result<u64>
-    requires valid { Valid settings pieces.now }
-    requires masks_len { length masks.old ≡ length pieces.now }
+    requires { length masks.old ≡ length layer.now.pieces.now }
 {
-    let run = decomposer::decompose(settings, pieces, masks);
+    let run = decomposer::decompose(layer, masks);
     if last == Stage::Score {
         return Ok(u64::from(run.steps));
     }
@@ -129,72 +126,67 @@ fn last_stages(
 }
 
 // The cost by edges of pieces. The pieces are judged first, as a call on records does.
-#[tactic(auto, using(units::proofs::TieUnits::few_pieces, units::proofs::TieUnits::new_front))]
-fn edge_score(settings: Settings, pieces: &[Piece], masks: &[u8]) -> u64
-    requires valid { Valid settings pieces.now }
-    requires masks_len { length masks.now ≡ length pieces.now }
+#[tactic(auto, using(rules::proofs::Validity::layer_facts, units::proofs::TieUnits::new_front))]
+fn edge_score(settings: Settings, pieces: &[Piece], masks: &[u8]) -> Result<u64, Refused>
+    requires { length masks.now ≡ length pieces.now }
 {
-    if fixed_masks::judge(settings, pieces).is_err() {
-        return 0;
-    }
+    let layer = fixed_masks::judge(settings, pieces)?;
     let mut edges = EdgeSets::empty();
     let mut units = [0u16; 512];
-    let units = &mut units[..pieces.len()];
-    units::layer_units(settings, pieces, &mut edges, units);
-    u64::from(counting::score_edges(settings.weight, &edges, masks).cost)
+    let units = &mut units[..layer.pieces.len()];
+    units::layer_units(&layer, &mut edges, units);
+    let score = counting::score_edges(settings.weight, &edges, masks);
+    Ok(u64::from(score.cost))
 }
 
 // The stages after `Judgement`.
 fn judged_stages(
     rt: &impl Print,
     last: Stage,
-    settings: Settings,
-    pieces: &[Piece],
+    layer: &ValidLayer,
     masks: &mut [u8],
-) -> io::Result<u64>
-    requires valid { Valid settings pieces.now }
-    requires masks_len { length masks.old ≡ length pieces.now }
+) -> io::Result<Option<u64>>
+    requires { length masks.old ≡ length layer.now.pieces.now }
 {
-    match last {
+    Ok(match last {
         Stage::Score | Stage::Writing | Stage::Printing => {
-            last_stages(rt, last, settings, pieces, masks)
+            Some(last_stages(rt, last, layer, masks)?)
         }
-        Stage::PairScore => Ok(match scoring::score(settings, pieces, masks) {
-            Ok(scoring) => u64::from(scoring.score.cost),
-            Err(_) => 0,
-        }),
-        Stage::EdgeScore => Ok(edge_score(settings, pieces, masks)),
-        _ => Ok(first_stages(last, settings, pieces, masks)),
-    }
+        Stage::PairScore => scoring::score(layer.settings, layer.pieces, masks)
+            .ok()
+            .map(|scoring| u64::from(scoring.score.cost)),
+        Stage::EdgeScore => edge_score(layer.settings, layer.pieces, masks).ok(),
+        _ => Some(first_stages(last, layer, masks)),
+    })
 }
 
-// Every stage up to the last one. Where the layer is refused, the others make nothing.
-fn stages(rt: &impl Print, last: Stage, text: &[u8]) -> io::Result<u64> {
+// Every stage up to the last one. No number is made where nothing is to be done, or the layer is refused.
+fn stages(rt: &impl Print, last: Stage, text: &[u8]) -> io::Result<Option<u64>> {
     if last == Stage::Nothing {
-        return Ok(0);
+        return Ok(None);
     }
     let read = text::read_layer(text);
     if read.answer.is_err() {
-        return Ok(0);
+        return Ok(None);
     }
-    let pieces = &read.pieces[..read.count];
+    let pieces = read.lent();
     if last == Stage::Text {
-        return Ok(pieces.len() as u64);
+        return Ok(Some(pieces.len() as u64));
     }
-    if fixed_masks::judge(read.settings, pieces).is_err() {
-        return Ok(0);
-    }
+    let Ok(layer) = fixed_masks::judge(read.settings, pieces) else {
+        return Ok(None);
+    };
     if last == Stage::Judgement {
-        return Ok(1);
+        return Ok(Some(1));
     }
     let mut masks = [0u8; 512];
-    judged_stages(rt, last, read.settings, pieces, &mut masks[..pieces.len()])
+    judged_stages(rt, last, &layer, &mut masks[..pieces.len()])
 }
 
 fn repeated(rt: &impl Print, last: Stage, repeats: u32, text: &[u8]) -> io::Result<u64> {
     let mut sum = 0u64;
     for _ in 0..repeats {
-        sum = sum.wrapping_add(stages(rt, last, text)?);
+        sum = sum.wrapping_add(stages(rt, last, text)?.unwrap_or(0));
     }
     Ok(sum)
 }

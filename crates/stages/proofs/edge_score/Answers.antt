@@ -1,13 +1,9 @@
--- `edge_score`: a layer has few pieces, and settings in their range. Assumes nothing.
-use Rattle.std.proofs.Common.{arith}
-use Rattle.rules.proofs.Ranges.{settings_facts}
-use Rattle.rules.proofs.Validity.{valid_sound}
-use Rattle.units.proofs.TieUnits.{few_pieces}
+-- `edge_score`: a layer that passes has few pieces, and settings in their range. Assumes nothing.
+use Rattle.std.proofs.Common.{sym, arith}
+use Rattle.rules.proofs.Validity.{layer_facts}
 use Rattle.stages.proofs.edge_score.Goals as goal
 
-pub score_edges-requires : goal.score_edges-requires
-score_edges-requires c =
-    record {
-      weight_bound = (settings_facts _ (valid_sound _ _ c.requires.valid).settings).weight.high;
-      masks_bound = omega (arith, few_pieces _ _ c.requires.valid);
-    }
+pub score_edges-score-requires : goal.score_edges-score-requires
+score_edges-score-requires c =
+    let facts = layer_facts _ _ (sym c.in_ok-layer.ensures.answer) in
+    record { weight_bound = facts.settings.weight.high; masks_bound = omega (arith, facts.few) }

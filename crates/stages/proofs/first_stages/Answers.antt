@@ -1,33 +1,31 @@
 -- `first_stages`: each stage may be called where the one before it ended, as in the run itself. Assumes nothing.
-use Rattle.std.proofs.Common.{refl, arith}
+use Rattle.std.proofs.Common.{refl, ◌∙◌, arith}
 use Rattle.rules.specs.Settings.{fixed_masks}
-use Rattle.rules.proofs.Ranges.{settings_facts}
-use Rattle.rules.proofs.Validity.{valid_sound}
+use Rattle.rules.proofs.Validity.{layer_facts}
 use Rattle.adjacency.specs.UnitGraph.{unit_at}
 use Rattle.fixed_masks.proofs.FixedLaws.{masks_length}
 use Rattle.units.specs.Noted.{NotedMasks}
 use Rattle.units.proofs.SplitLaws.{unit_inside}
-use Rattle.units.proofs.TieUnits.{few_pieces}
 use Rattle.decomposer.proofs.RunLaws.{layer_sound, unit_places, units_fixed}
 use Rattle.stages.proofs.first_stages.Goals as goal
 use Rattle.stages.proofs.first_stages.Goals.{After-note_masks}
 
 pub note_masks-requires : goal.note_masks-requires
 note_masks-requires c =
-    rw (c.fixed_masks_of-given.ensures, masks_length c.args.pieces.now)
+    rw (c.as_slice.ensures.value, c.fixed_masks_of-given.ensures, masks_length c.args.layer.now.pieces.now)
     (record {
-      masks_len_bound = few_pieces _ _ c.requires.valid;
+      masks_len_bound = (layer_facts _ _ c.args.layer.now.valid).few;
       units_len = omega (arith, c.layer_units-core.ensures.units_of.whole);
       by_index = λ i l. unit_inside _ _ c.layer_units-core.ensures.units_of i l;
     })
 
 -- the fixed masks of the pieces were noted of their units
-noted : (c : After-note_masks) → NotedMasks (unit_at c.layer_units-core.new.units) (fixed_masks c.args.pieces.now) c.note_masks.new.noted c.note_masks.result
-noted c = rw c.fixed_masks_of-given.ensures at c.note_masks.ensures
+noted : (c : After-note_masks) → NotedMasks (unit_at c.layer_units-core.new.units) (fixed_masks c.args.layer.now.pieces.now) c.note_masks.new.noted c.note_masks.result
+noted c = rw (c.as_slice.ensures.value ∙ c.fixed_masks_of-given.ensures) at c.note_masks.ensures
 
 pub merge_edges-requires : goal.merge_edges-requires
 merge_edges-requires c =
-    let sizes = few_pieces _ _ c.requires.valid in
+    let sizes = (layer_facts _ _ c.args.layer.now.valid).few in
     let numbered = c.layer_units-core.ensures.units_of in
     record {
       few = omega (arith, numbered.whole, sizes);
@@ -36,16 +34,16 @@ merge_edges-requires c =
 
 pub search_core-requires-clause-sound : goal.search_core-requires-clause-sound
 search_core-requires-clause-sound c =
-    layer_sound _ _ c.requires.valid c.layer_units-core.ensures.adjacency c.layer_units-core.ensures.units_of _ refl refl refl
+    layer_sound _ _ c.args.layer.now.valid c.layer_units-core.ensures.adjacency c.layer_units-core.ensures.units_of _ refl refl refl
 
 -- what is left of the units is among them
 pub search_core-requires-clause-given : goal.search_core-requires-clause-given
 search_core-requires-clause-given c =
-    let valid = c.requires.valid in
+    let valid = c.args.layer.now.valid in
     let adjacency = c.layer_units-core.ensures.adjacency in
     let numbered = c.layer_units-core.ensures.units_of in
-    let facts = settings_facts _ (valid_sound _ _ valid).settings in
-    let places = unit_places _ _ valid adjacency numbered c.args.masks.now c.requires.masks_len in
+    let facts = (layer_facts _ _ valid).settings in
+    let places = unit_places _ _ valid adjacency numbered c.args.masks.now c.requires in
     let fixed = units_fixed _ _ valid adjacency numbered (noted (goal.at.search_core-requires-clause-given c).After-note_masks) in
     let within = c.peel-removals.ensures.inside in
     rw c.from-limits.ensures

@@ -13,4 +13,4 @@ fits : (s : Settings) (ps : List Piece) {r : Run} → r ≡ run s ps → Valid s
 fits s ps same valid = rw same (result_fits s ps valid)
 
 pub write_result-length-requires : goal.write_result-length-requires
-write_result-length-requires g c = fits _ _ c.decompose-run.ensures.masks_after c.requires.valid
+write_result-length-requires g c = fits _ _ c.decompose-run.ensures.masks_after c.args.layer.now.valid
