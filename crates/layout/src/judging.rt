@@ -3,12 +3,12 @@ ghost use Rattle.std.specs.Prelude.{◌≡◌, ◌≤◌, ◌<◌, length};
 ghost use Rattle.rules.specs.declared.refusal.Place.{Place};
 ghost use Rattle.rules.specs.Answers.{answer_of};
 ghost use Rattle.rules.specs.Basics.{any_of, up_to};
-ghost use Rattle.rules.specs.Settings.{piece_in_range, has_area, fixed_in_range, piece_at};
+ghost use Rattle.rules.specs.Settings.{piece_in_range, has_area, piece_at};
 ghost use Rattle.rules.specs.Edges.{overlapping};
 ghost use Rattle.rules.specs.Questions.{ask_each, judge_piece, judge_record, judge_records, judge_overlaps};
 
 use edges::pieces_overlap;
-use rules::{Piece, Place, Refusal, Refused, Settings};
+use rules::{Piece, Place, Refusal, Refused, Settings, mask_in_range};
 
 // Whether each number of a piece is in its range.
 #[tactic(auto, unfolding(rules::specs::Settings::piece_in_range))]
@@ -44,13 +44,6 @@ pub fn judge_piece(place: Place, p: Piece) -> Result<(), Refused>
     Ok(())
 }
 
-// Whether a fixed mask is below the limit, or there is none.
-fn fixed_in_range(limit: u32, mask: u8) -> bool
-    ensures { result ≡ fixed_in_range limit mask }
-{
-    mask == Piece::UNSET || u32::from(mask) < limit
-}
-
 // Questions 4, 13 and 5 of one record. Not by `judge_piece`: the rules ask 13 of a record between 4 and 5, and of a piece line not at all.
 #[tactic(auto, unfolding(rules::specs::Questions::judge_record))]
 pub fn judge_record(masks: u32, place: Place, p: Piece) -> Result<(), Refused>
@@ -59,7 +52,7 @@ pub fn judge_record(masks: u32, place: Place, p: Piece) -> Result<(), Refused>
     if !piece_in_range(p) {
         return Err(Refusal::Range.at(place));
     }
-    if !fixed_in_range(masks, p.fixed) {
+    if !mask_in_range(masks, p.fixed) {
         return Err(Refusal::FixedRange.at(place));
     }
     if !has_area(p) {

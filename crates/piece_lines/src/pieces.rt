@@ -2,27 +2,12 @@
 // the reader has come.
 ghost use Rattle.std.specs.Prelude.{◌≡◌, ◌+◌, ◌<◌, ◌≤◌, IfOk, OnOk, length};
 ghost use Rattle.lines.specs.Readers.{answer_as};
-ghost use Rattle.rules.specs.Questions.{PieceRead, PiecesRead, piece_from, read_piece, read_pieces};
+ghost use Rattle.rules.specs.Questions.{PieceRead, PiecesRead, read_piece, read_pieces};
 
 use crate::records::Pieces;
 use layout::judge_piece;
 use lines::Reader;
 use rules::{Piece, Refused};
-
-// The piece that five numbers state.
-fn piece_from(values: [u32; 5]) -> Piece
-    ensures { result ≡ piece_from values }
-{
-    let [shape, x1, y1, x2, y2] = values;
-    Piece {
-        shape,
-        x1,
-        y1,
-        x2,
-        y2,
-        fixed: Piece::UNSET,
-    }
-}
 
 // The next line, which is to state a piece.
 fn read_piece(reader: &mut Reader) -> Result<Piece, Refused>
@@ -31,7 +16,7 @@ fn read_piece(reader: &mut Reader) -> Result<Piece, Refused>
     ensures line { OnOk result (reader.new.line ≡ reader.old.line + 1) }
 {
     let place = reader.place();
-    let piece = piece_from(reader.next_line(b"piece=")?);
+    let piece = Piece::from(reader.next_line(b"piece=")?);
     judge_piece(place, piece)?;
     Ok(piece)
 }

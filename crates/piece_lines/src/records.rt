@@ -26,16 +26,8 @@ impl Pieces {
     pub fn none() -> Pieces
         ensures { result ≡ [] }
     {
-        let zero = Piece {
-            shape: 0,
-            x1: 0,
-            y1: 0,
-            x2: 0,
-            y2: 0,
-            fixed: 0,
-        };
         Pieces {
-            records: [zero; 512],
+            records: [Piece::default(); 512],
             count: 0,
         }
     }

@@ -66,11 +66,11 @@ ahead vs (refused number place) = refused number place
 
 ahead_none : (o : Outcome NumbersRead) → o ≡ ahead [] o
 ahead_none (done l) = refl
-ahead_none (refused number place) = refl
+ahead_none (refused n place) = refl
 
 ahead_snoc : (vs : List ℕ) (v : ℕ) (o : Outcome NumbersRead) → ahead vs (and_then o λ l. done (record { numbers = v ∷ l.numbers; rest = l.rest })) ≡ ahead (vs ++ (v ∷ [])) o
 ahead_snoc vs v (done l) = ap (λ (ns : List ℕ). done (record { numbers = ns; rest = l.rest })) (sym (append_snoc vs v l.numbers))
-ahead_snoc vs v (refused number place) = refl
+ahead_snoc vs v (refused n place) = refl
 
 -- what the numbers that were read, the lines that are to come, the number of the first of them and the text from it on say of all six
 pub record Read (text vs : List ℕ) (lines : List NumberLine) (lineNo : ℕ) (rest : List ℕ) : Type 0 where

@@ -6,7 +6,7 @@ ghost use Rattle.rules.specs.Questions.{HeaderRead, NumberRead, read_header, rea
 ghost use Rattle.text.specs.Lines.{line_of};
 
 use lines::Reader;
-use rules::{Piece, Refusal, Refused, Settings, in_limits};
+use rules::{Piece, Refusal, Refused, Settings};
 
 // A line with one number: its key, and the range of the number.
 #[derive(Clone, Copy)]
@@ -59,7 +59,7 @@ fn read_number(reader: &mut Reader, expected: &Expected) -> Result<u32, Refused>
 {
     let place = reader.place();
     let [number] = reader.next_line::<1>(expected.key)?;
-    if !in_limits(expected.least, expected.greatest, number) {
+    if !(expected.least..=expected.greatest).contains(&number) {
         return Err(Refusal::Range.at(place));
     }
     Ok(number)

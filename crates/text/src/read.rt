@@ -55,13 +55,7 @@ pub fn hand_back(read: Result<Layer, Refused>) -> LayerRead
         },
         Err(refused) => LayerRead {
             answer: Err(refused),
-            settings: Settings {
-                masks: 0,
-                spacing: 0,
-                margin: 0,
-                weight: 0,
-                budget: 0,
-            },
+            settings: Settings::default(),
             count: 0,
             pieces: Pieces::none().into_records(),
         },

@@ -14,11 +14,11 @@ pub returns-in_err-judge_piece-clause-piece : goal.returns-in_err-judge_piece-cl
 unfolding ascii
 returns-in_err-judge_piece-clause-piece c =
     let p = err_from_is_err_and c.from_residual-in_err-judge_piece.result c.from_residual-in_err-judge_piece.ensures.1 in
-    let judged = rw (c.place-place.ensures, c.piece_from-piece.ensures) at c.in_err-judge_piece.ensures in
+    let judged = rw (c.place-place.ensures, c.from-piece.ensures) at c.in_err-judge_piece.ensures in
     rw (p.1, p.2) (piece_refused _ _ _ _ c.in_ok-next_line.ensures.read _ _ judged)
 
 pub returns-clause-piece : goal.returns-clause-piece
 unfolding ascii
 returns-clause-piece c =
-    let judged = rw (c.place-place.ensures, c.piece_from-piece.ensures) at c.in_ok-judge_piece.ensures in
-    rw c.piece_from-piece.ensures (piece_good _ _ _ _ c.in_ok-next_line.ensures.read judged)
+    let judged = rw (c.place-place.ensures, c.from-piece.ensures) at c.in_ok-judge_piece.ensures in
+    rw c.from-piece.ensures (piece_good _ _ _ _ c.in_ok-next_line.ensures.read judged)

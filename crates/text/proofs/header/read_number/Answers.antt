@@ -1,5 +1,5 @@
 -- `read_number`: the form, then the range; the number up to the cap decides as the number itself. Assumes nothing.
-use Rattle.std.proofs.Common.{sym, ◌∙◌}
+use Rattle.std.proofs.Common.{rules, tests}
 use Rattle.std.proofs.lemmas.Result.{err_from_is_err_and}
 use Rattle.text.proofs.HeaderLines.{number_form, number_out, number_in}
 use Rattle.text.proofs.header.read_number.Goals as goal
@@ -9,11 +9,11 @@ returns-in_err-number-clause-number c =
     let p = err_from_is_err_and c.from_residual.result c.from_residual.ensures.1 in
     rw (p.1, p.2) (number_form _ _ c.args.expected.now.least c.args.expected.now.greatest _ _ _ c.in_err-number.ensures.read)
 
-pub returns-then-not-in_limits-clause-number : goal.returns-then-not-in_limits-clause-number
-returns-then-not-in_limits-clause-number c =
+pub returns-then-not-contains-clause-number : goal.returns-then-not-contains-clause-number
+returns-then-not-contains-clause-number c =
     rw (c.at.ensures, c.place-place.ensures)
-    (number_out _ _ c.args.expected.now.least c.args.expected.now.greatest _ c.requires.small _ _ c.in_ok-number.ensures.read (sym c.in_limits.ensures ∙ c.if-not-in_limits.true))
+    (number_out _ _ c.args.expected.now.least c.args.expected.now.greatest _ c.requires.small _ _ c.in_ok-number.ensures.read (search (rules, tests)))
 
 pub returns-clause-number : goal.returns-clause-number
 returns-clause-number c =
-    number_in _ _ c.args.expected.now.least c.args.expected.now.greatest _ c.requires.small _ _ c.in_ok-number.ensures.read (sym c.in_limits.ensures ∙ c.if-not-in_limits.false)
+    number_in _ _ c.args.expected.now.least c.args.expected.now.greatest _ c.requires.small _ _ c.in_ok-number.ensures.read (search (rules, tests))
