@@ -21,7 +21,7 @@ fn split_mask(text: &[u8]) -> Option<(u8, &[u8])>
     Some((mask_of(line.values[0]), line.rest))
 }
 
-// Stores mask i, if there is room for it.
+// Stores mask i, if there is room for it. Not by `get_mut`: of a list in which that finds nothing, nothing shows that it stays.
 fn put_mask(masks: &mut [u8], i: usize, mask: u8)
     ensures { masks.new ≡ set masks.old i mask }
 {
@@ -47,7 +47,8 @@ impl Display for LineError {
 }
 
 // Stores the masks at the front of the list, and answers that part of it. Lines for which there is no room are judged for their form alone. A text
-// may have more lines than the `Reader` of `lines` counts.
+// may have more lines than the `Reader` of `lines` counts, and an iterator over them would hand on masks or a bad line, whose number is counted all
+// the same. What stands behind the masks is free: of a list from which the answer borrows no clause says what it becomes.
 pub fn read_masks<'a>(text: &[u8], masks: &'a mut [u8]) -> Result<&'a [u8], LineError>
     ensures { MatchResult result (λ stored. AllStored text.now (length masks.old) stored.now) (λ bad. BadLine text.now bad.line) }
 {

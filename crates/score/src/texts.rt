@@ -13,7 +13,7 @@ fn score_layer(layer: &[u8], masks: &[u8]) -> Result<Scoring, Refused>
 {
     let read = text::read_layer(layer);
     read.answer?;
-    scoring::score(read.settings, &read.pieces[..read.count], masks)
+    scoring::score(read.settings, read.lent(), masks)
 }
 
 // Why there is no score: a line that is no mask line, or a refusal of the layer or its masks.
