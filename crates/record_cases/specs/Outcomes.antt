@@ -16,7 +16,7 @@ verdict_number Verdict.Open = 0
 -- of each answer, where lent memory is as it must be
 abbrev pub answer_numbers : Answer → List ℕ
 answer_numbers (Answer.Scored s) = 0 ∷ 0 ∷ s.score.conflicts ∷ s.score.stitches ∷ s.score.cost ∷ s.tested ∷ 0 ∷ 0 ∷ []
-answer_numbers (Answer.Decomposed d) = 0 ∷ 0 ∷ d.conflicts ∷ d.stitches ∷ d.cost ∷ d.steps ∷ verdict_number d.verdict ∷ 0 ∷ []
+answer_numbers (Answer.Decomposed d) = 0 ∷ 0 ∷ d.score.conflicts ∷ d.score.stitches ∷ d.score.cost ∷ d.steps ∷ verdict_number d.verdict ∷ 0 ∷ []
 answer_numbers (Answer.Written size) = 0 ∷ 0 ∷ 0 ∷ 0 ∷ 0 ∷ size ∷ 0 ∷ 0 ∷ []
 answer_numbers (Answer.Refused r) = refusal_number r.refusal ∷ place_number r.place ∷ 0 ∷ 0 ∷ 0 ∷ 0 ∷ 0 ∷ 0 ∷ []
 

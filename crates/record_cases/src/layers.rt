@@ -1,6 +1,5 @@
 // The layers of the cases; each is an array of more records than a layer may have.
 ghost use Rattle.std.specs.Prelude.{◌≡◌, ◌<◌, [], get_or};
-ghost use Rattle.rules.specs.Questions.{piece_from};
 ghost use Rattle.record_cases.specs.Layers.{four_records, far_square, records_of};
 
 use rules::Piece;
@@ -23,7 +22,8 @@ pub enum Layer {
     FixedTied,
 }
 
-// Of each piece its shape and its corners. Where a layer has three, a fourth that no case lends stands after them.
+// Of each piece its shape and its corners: a table of rows is plainer than literals of six fields. Where a layer has three pieces, a fourth that no case
+// lends stands after them.
 const ROW: [[u32; 5]; 4] = [
     [0, 0, 0, 20, 20],
     [1, 40, 0, 60, 20],
@@ -66,27 +66,12 @@ const TIED: [[u32; 5]; 4] = [
     [2, 60, 60, 80, 80],
 ];
 
-// The piece that a row states: a layer as a table of rows is plainer than as literals of six fields.
-fn piece(five: [u32; 5]) -> Piece
-    ensures { result ≡ piece_from five }
-{
-    let [shape, x1, y1, x2, y2] = five;
-    Piece {
-        shape,
-        x1,
-        y1,
-        x2,
-        y2,
-        fixed: Piece::UNSET,
-    }
-}
-
 // Four pieces, and then the first one again.
 #[tactic(auto, unfolding(crate::specs::Layers::four_records))]
 fn four_records(four: [[u32; 5]; 4]) -> [Piece; 513]
     ensures { result ≡ four_records (get_or four 0 []) (get_or four 1 []) (get_or four 2 []) (get_or four 3 []) }
 {
-    let [a, b, c, d] = four.map(piece);
+    let [a, b, c, d] = four.map(Piece::from);
     let mut all = [a; 513];
     all[1] = b;
     all[2] = c;
@@ -101,7 +86,7 @@ fn far_square(i: u32) -> Piece
 {
     let x = 2000 * (i % 32);
     let y = 2000 * (i / 32);
-    piece([i, x, y, x + 20, y + 20])
+    Piece::from([i, x, y, x + 20, y + 20])
 }
 
 // As many such squares as there are records: one more than a layer may have.

@@ -28,12 +28,15 @@ pub fn scored(conflicts: u32, stitches: u32, cost: u32, tested: u32) -> Answer
 
 // The answer of a run that ended within its budget.
 pub fn best(conflicts: u32, stitches: u32, cost: u32, steps: u32) -> Answer
-    ensures { result ≡ Answer.Decomposed (record { conflicts = conflicts; stitches = stitches; cost = cost; steps = steps; verdict = Verdict.Best }) }
+    ensures { result ≡ Answer.Decomposed (record { score = record { conflicts = conflicts; stitches = stitches; cost = cost }; steps = steps; verdict = Verdict.Best }) }
 {
-    Answer::Decomposed(Decomposition {
+    let score = Score {
         conflicts,
         stitches,
         cost,
+    };
+    Answer::Decomposed(Decomposition {
+        score,
         steps,
         verdict: Verdict::Best,
     })
@@ -73,9 +76,9 @@ impl Outcome {
             Answer::Decomposed(run) => [
                 0,
                 0,
-                u64::from(run.conflicts),
-                u64::from(run.stitches),
-                u64::from(run.cost),
+                u64::from(run.score.conflicts),
+                u64::from(run.score.stitches),
+                u64::from(run.score.cost),
                 u64::from(run.steps),
                 u64::from(run.verdict == Verdict::Best),
                 changed,
