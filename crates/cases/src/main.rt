@@ -37,7 +37,7 @@ fn report_refusal(rt: &impl Print, name: &[u8], came: Refused, wanted: &[u8]) ->
     println!(rt; ": DIFFERS: refused={came}")
 }
 
-// Where a file is not read, standard error has the reason, and the case is run without it.
+// Where a file is not read, standard error has the reason, and the case is run on an empty text in its place: nothing asks later whether it was read.
 fn run_files(rt: &(impl Files + Print + Eprint), layer: &[u8], expected: &[u8]) -> io::Result<()> {
     let mut layer_text = [0u8; 65_536];
     let mut expected_text = [0u8; 4_096];

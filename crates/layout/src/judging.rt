@@ -10,7 +10,7 @@ ghost use Rattle.rules.specs.Questions.{ask_each, judge_piece, judge_record, jud
 use edges::pieces_overlap;
 use rules::{Piece, Place, Refusal, Refused, Settings, mask_in_range};
 
-// Whether each number of a piece is in its range.
+// Whether each number of a piece is in its range, which begins at 0.
 #[tactic(auto, unfolding(rules::specs::Settings::piece_in_range))]
 pub fn piece_in_range(p: Piece) -> bool
     ensures { result ≡ piece_in_range p }

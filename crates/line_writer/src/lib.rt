@@ -8,7 +8,8 @@ ghost use Rattle.line_writer.specs.Writing.{HasRoom, Wrote, laid, keyed_line};
 
 use itoa::Buffer;
 
-// A lent buffer, and the place in it where the next text goes.
+// A lent buffer, and the place in it where the next text goes. Not the library's `Cursor`: its `write` answers how much was written, which each call would
+// look at in vain where there is room, and of its `write_all` nothing shows that it is `Ok` there.
 #[derive(Drop)]
 pub struct Writer<'a> {
     buffer: &'a mut [u8],
