@@ -2,8 +2,8 @@
 ghost use Rattle.std.specs.Prelude.{◌≡◌, ◌≤◌};
 
 use crate::layers::{Layer, records_of};
-use crate::outcomes::{Answer, Outcome};
-use rules::Settings;
+use crate::outcomes::{Done, Outcome};
+use rules::{Refused, Settings};
 use std::io;
 
 // A name, and the first pieces of a layer, with the number of masks that they are divided over.
@@ -59,7 +59,13 @@ impl Case {
     }
 
     // A line with the case's name, and what came instead where it is not what the rules state.
-    fn report(self, rt: &impl Print, answer: Answer, kept: bool, wanted: Answer) -> io::Result<()> {
+    fn report(
+        self,
+        rt: &impl Print,
+        answer: Result<Done, Refused>,
+        kept: bool,
+        wanted: Result<Done, Refused>,
+    ) -> io::Result<()> {
         let name = self.name;
         let came = Outcome { answer, kept };
         let wanted = Outcome {
@@ -74,33 +80,48 @@ impl Case {
     }
 
     // Scores these masks.
-    pub fn score(self, rt: &impl Print, masks: &[u8], wanted: Answer) -> io::Result<()> {
+    pub fn score(
+        self,
+        rt: &impl Print,
+        masks: &[u8],
+        wanted: Result<Done, Refused>,
+    ) -> io::Result<()> {
         let records = records_of(self.layer);
         let lent = &records[..self.pieces];
         let came = records::score(self.settings(), lent, masks);
-        let answer = came.map_or_else(Answer::Refused, Answer::Scored);
+        let answer = came.map(Done::Scored);
         self.report(rt, answer, true, wanted)
     }
 
     // Decomposes, with a list of masks that are all 9 and must then be these.
-    pub fn decompose(self, rt: &impl Print, after: &[u8], wanted: Answer) -> io::Result<()> {
+    pub fn decompose(
+        self,
+        rt: &impl Print,
+        after: &[u8],
+        wanted: Result<Done, Refused>,
+    ) -> io::Result<()> {
         let records = records_of(self.layer);
         let lent = &records[..self.pieces];
         let mut list = [9u8; 513];
         let masks = &mut list[..after.len().min(513)];
         let came = records::decompose(self.settings(), lent, masks);
-        let answer = came.map_or_else(Answer::Refused, Answer::Decomposed);
+        let answer = came.map(Done::Decomposed);
         self.report(rt, answer, &*masks == after, wanted)
     }
 
     // Writes the layer's text into a buffer of zeros, which must then be this one.
-    pub fn write(self, rt: &impl Print, after: &[u8], wanted: Answer) -> io::Result<()> {
+    pub fn write(
+        self,
+        rt: &impl Print,
+        after: &[u8],
+        wanted: Result<Done, Refused>,
+    ) -> io::Result<()> {
         let records = records_of(self.layer);
         let lent = &records[..self.pieces];
         let mut zeros = [0u8; 65_536];
         let buffer = &mut zeros[..after.len().min(65_536)];
         let came = records::write_layer(self.settings(), lent, buffer);
-        let answer = came.map_or_else(Answer::Refused, Answer::Written);
+        let answer = came.map(Done::Written);
         self.report(rt, answer, &*buffer == after, wanted)
     }
 }

@@ -8,7 +8,7 @@ mod outcomes;
 
 use crate::calls::Case;
 use crate::layers::Layer;
-use crate::outcomes::{Answer, best, refused, scored};
+use crate::outcomes::{Done, best, refused, scored};
 use files::read_all;
 use rules::{Place, Refusal};
 use std::io;
@@ -55,7 +55,7 @@ fn text(rt: &(impl Input + Print)) -> io::Result<()> {
     let mut after = [0u8; 65_536];
     let size = read_all(&mut rt.reader(), &mut after)?.len();
     let row = Case::new("write the row, piece 1 fixed to 0", Layer::FixedRow, 3);
-    row.write(rt, &after, Answer::Written(size))
+    row.write(rt, &after, Ok(Done::Written(size)))
 }
 
 // ---- refusals

@@ -1,57 +1,57 @@
 // What a call comes to, with whether lent memory is then as it must be.
-ghost use Rattle.std.specs.Prelude.{◌≡◌};
+ghost use Rattle.std.specs.Prelude.{◌≡◌, Err, Ok};
 ghost use Rattle.record_cases.specs.Outcomes.{numbers_of};
 
 use rules::{Decomposition, Place, Refusal, Refused, Score, Scoring, Verdict};
 use std::fmt;
 use std::fmt::Display;
 
+// What a call answers that refuses nothing.
 #[derive(Clone, Copy, Debug, PartialEq, Eq)]
-pub enum Answer {
+pub enum Done {
     Scored(Scoring),
     Decomposed(Decomposition),
     Written(usize),
-    Refused(Refused),
 }
 
 // The answer with this score and so many tested pairs.
-pub fn scored(conflicts: u32, stitches: u32, cost: u32, tested: u32) -> Answer
-    ensures { result ≡ Answer.Scored (record { score = record { conflicts = conflicts; stitches = stitches; cost = cost }; tested = tested }) }
+pub fn scored(conflicts: u32, stitches: u32, cost: u32, tested: u32) -> Result<Done, Refused>
+    ensures { result ≡ Ok (Done.Scored (record { score = record { conflicts = conflicts; stitches = stitches; cost = cost }; tested = tested })) }
 {
     let score = Score {
         conflicts,
         stitches,
         cost,
     };
-    Answer::Scored(Scoring { score, tested })
+    Ok(Done::Scored(Scoring { score, tested }))
 }
 
 // The answer of a run that ended within its budget.
-pub fn best(conflicts: u32, stitches: u32, cost: u32, steps: u32) -> Answer
-    ensures { result ≡ Answer.Decomposed (record { score = record { conflicts = conflicts; stitches = stitches; cost = cost }; steps = steps; verdict = Verdict.Best }) }
+pub fn best(conflicts: u32, stitches: u32, cost: u32, steps: u32) -> Result<Done, Refused>
+    ensures { result ≡ Ok (Done.Decomposed (record { score = record { conflicts = conflicts; stitches = stitches; cost = cost }; steps = steps; verdict = Verdict.Best })) }
 {
     let score = Score {
         conflicts,
         stitches,
         cost,
     };
-    Answer::Decomposed(Decomposition {
+    Ok(Done::Decomposed(Decomposition {
         score,
         steps,
         verdict: Verdict::Best,
-    })
+    }))
 }
 
 // The answer that refuses what stands at this place.
-pub fn refused(refusal: Refusal, place: Place) -> Answer
-    ensures { result ≡ Answer.Refused (record { refusal = refusal; place = place }) }
+pub fn refused(refusal: Refusal, place: Place) -> Result<Done, Refused>
+    ensures { result ≡ Err (record { refusal = refusal; place = place }) }
 {
-    Answer::Refused(refusal.at(place))
+    Err(refusal.at(place))
 }
 
 #[derive(Clone, Copy, Debug, PartialEq, Eq)]
 pub struct Outcome {
-    pub answer: Answer,
+    pub answer: Result<Done, Refused>,
     pub kept: bool,
 }
 
@@ -63,7 +63,7 @@ impl Outcome {
     {
         let changed = u64::from(!self.kept);
         match self.answer {
-            Answer::Scored(Scoring { score, tested }) => [
+            Ok(Done::Scored(Scoring { score, tested })) => [
                 0,
                 0,
                 u64::from(score.conflicts),
@@ -73,7 +73,7 @@ impl Outcome {
                 0,
                 changed,
             ],
-            Answer::Decomposed(run) => [
+            Ok(Done::Decomposed(run)) => [
                 0,
                 0,
                 u64::from(run.score.conflicts),
@@ -83,8 +83,8 @@ impl Outcome {
                 u64::from(run.verdict == Verdict::Best),
                 changed,
             ],
-            Answer::Written(size) => [0, 0, 0, 0, 0, size as u64, 0, changed],
-            Answer::Refused(Refused { refusal, place }) => [
+            Ok(Done::Written(size)) => [0, 0, 0, 0, 0, size as u64, 0, changed],
+            Err(Refused { refusal, place }) => [
                 u64::from(refusal.number()),
                 u64::from(place.number()),
                 0,
