@@ -5,7 +5,6 @@ use mathlib.Core.Path.{◌≡◌, refl, sym, ap, ap₂, subst⁻¹, ◌∙◌}
 use Prim.Native.Nat.{ℕ, zero, suc, ◌-◌, ◌≤◌, ◌<◌}
 use native.Mathlib.Omega.{arith}
 use lib.ListN.{length, get_or, take, length-map}
-use lib.Seq.{take-length}
 use Rattle.std.specs.Prelude.{Option}
 use Rattle.bitset.specs.declared.matrix.Matrix.{Matrix}
 use Rattle.rules.specs.Edges.{Graph}
@@ -21,10 +20,10 @@ use Rattle.theory.proofs.Budget.{ends}
 use Rattle.theory.proofs.Fixed.{local_below}
 use Rattle.theory.proofs.Library.{bound_same}
 use Rattle.theory.proofs.SameCost.{from_alike}
-use Rattle.places.specs.Local.{list_graph, local_added}
+use Rattle.places.specs.Local.{Neighbours, list_graph, local_added}
 use Rattle.places.specs.LaidOut.{LaidOut}
-use Rattle.places.specs.declared.lists.Lists.{Lists}
-use Rattle.first_assignment.specs.First.{fixed_to, FixedLow}
+use Rattle.places.proofs.LocalCost.{laid_adds}
+use Rattle.first_assignment.specs.First.{FixedLow}
 use Rattle.early_end.specs.Ends.{end_of}
 use Rattle.search.specs.declared.limits.Limits.{Limits}
 use Rattle.search.specs.declared.limits.Progress.{Progress}
@@ -49,36 +48,36 @@ rising_places (x ∷ xs) r (suc i) (suc j) h l = rising_places xs r.1 i j (omega
 pub order_rises : (component order : List ℕ) → order ≡ members_of component → (i j : ℕ) → i < j → j < length order → get_or order i 0 < get_or order j 0
 order_rises component order is = rising_places order (rw is (members_rising component))
 
-module _ {conflictWords stitchWords : Matrix} {units fixed component order places result : List ℕ} {lists : Lists} {n : ℕ} {l : Limits} {p : Progress} (end : Option ℕ)
+module _ {conflictWords stitchWords : Matrix} {units fixed component order own result : List ℕ} {places : List Neighbours} {l : Limits} {p : Progress} (end : Option ℕ)
     (given : Given fixed component l p result) (is : order ≡ members_of component) (few : length order ≤ 512)
-    (laid : LaidOut conflictWords stitchWords units n order (length order) lists.starts lists.entries) (local : places ≡ map (fixed_at fixed) order)
-    (early : end ≡ end_of (library_bound l.masks l.weight (list_graph lists.starts lists.entries) (fixed_to places (length places)) (length places))) where
-  size : length places ≡ length order
+    (laid : LaidOut conflictWords stitchWords units order places) (local : own ≡ map (fixed_at fixed) order)
+    (early : end ≡ end_of (library_bound l.masks l.weight (list_graph places) (fixed_at own) (length own))) where
+  size : length own ≡ length order
   size = ap length local ∙ length-map order (fixed_at fixed)
 
-  vertices : length places ≡ length (members_of component)
+  vertices : length own ≡ length (members_of component)
   vertices = size ∙ ap length is
 
   abbrev masks_fixed : ℕ → ℕ
   masks_fixed = local_fixed (fixed_at fixed) (members_of component)
 
   -- the fixed masks of the places are those of the component's vertices
-  places_fixed : fixed_to places (length places) ≡ masks_fixed
+  places_fixed : fixed_at own ≡ masks_fixed
   places_fixed =
-      let masks : take (length places) places ≡ map (fixed_at fixed) (members_of component) = take-length places ∙ local ∙ ap (map (fixed_at fixed)) is in
+      let masks : own ≡ map (fixed_at fixed) (members_of component) = local ∙ ap (map (fixed_at fixed)) is in
       λ j i. get_or (masks j) i unset
 
-  below : FixedLow masks_fixed (length places) l.masks
+  below : FixedLow masks_fixed (length own) l.masks
   below i h = local_below (members_of component) (λ u m. let inside = (in_members component u).0 m in given.fixed_low u inside.0 inside.1) i (omega (arith, vertices))
 
-  pub posed : Posed lists places l p
+  pub posed : Posed places own l p
   posed = record {
     few = omega (arith, size);
     some = given.some;
     masks = given.masks;
     weight = given.weight;
-    places = λ k h. laid.lists k (omega (arith, size));
-    fixed_low = subst⁻¹ (λ (f : ℕ → ℕ). FixedLow f (length places) l.masks) places_fixed below;
+    laid = omega (arith, size, laid.size);
+    fixed_low = subst⁻¹ (λ (f : ℕ → ℕ). FixedLow f (length own) l.masks) places_fixed below;
     afford = given.afford;
   }
 
@@ -90,36 +89,36 @@ module _ {conflictWords stitchWords : Matrix} {units fixed component order place
       omega (arith, at, given.placed (get_or (members_of component) i 0) inside.0 inside.1)
 
   abbrev graph : Graph
-  graph = unit_graph conflictWords stitchWords units n
+  graph = unit_graph conflictWords stitchWords units (length units)
 
   same_cost : (q : List ℕ) (m : ℕ) → length q < length (members_of component)
-      → local_added l.weight lists.starts lists.entries q m ≡ added l.weight (local_graph graph (members_of component)) q m
-  same_cost q m h = laid.adds l.weight q m (omega (arith, ap length is)) ∙ ap (λ (o : List ℕ). added l.weight (local_graph graph o) q m) is
+      → local_added l.weight places q m ≡ added l.weight (local_graph graph (members_of component)) q m
+  same_cost q m h = laid_adds laid l.weight q m (omega (arith, ap length is)) ∙ ap (λ (o : List ℕ). added l.weight (local_graph graph o) q m) is
 
   -- the search ends where the library says of the component
-  bound_there : library_bound l.masks l.weight (list_graph lists.starts lists.entries) (fixed_to places (length places)) (length places)
+  bound_there : library_bound l.masks l.weight (list_graph places) (fixed_at own) (length own)
       ≡ library_bound l.masks l.weight (local_graph graph (members_of component)) masks_fixed (length (members_of component))
   bound_there =
       rw (places_fixed, vertices)
-      (bound_same (list_graph lists.starts lists.entries) (local_graph graph (members_of component)) (length (members_of component))
+      (bound_same (list_graph places) (local_graph graph (members_of component)) (length (members_of component))
       (λ u v i h. laid.conflicts u v i (omega (arith, ap length is)) ∙ ap (λ (o : List ℕ). (local_graph graph o).conflicts u v) is)
       (λ u v i h. laid.stitches u v i (omega (arith, ap length is)) ∙ ap (λ (o : List ℕ). (local_graph graph o).stitches u v) is)
       l.masks l.weight masks_fixed)
 
   ends_there : ends_at end ≡ ends l.masks l.weight (local_graph graph (members_of component)) masks_fixed (length (members_of component))
   ends_there =
-      let bound = library_bound l.masks l.weight (list_graph lists.starts lists.entries) (fixed_to places (length places)) (length places) in
+      let bound = library_bound l.masks l.weight (list_graph places) (fixed_at own) (length own) in
       ap ends_at early ∙ (λ i x. ends_bound bound x i) ∙ ap (λ (o : maybe.Option ℕ). at_bound o) bound_there
 
-  local_search : search_local lists places l end p ≡ search_of graph (fixed_at fixed) component l p
+  local_search : search_local places own l end p ≡ search_of graph (fixed_at fixed) component l p
   local_search =
       rw (ends_there, places_fixed, vertices)
-      (from_alike (local_added l.weight lists.starts lists.entries) (added l.weight (local_graph graph (members_of component))) (length (members_of component)) same_cost
+      (from_alike (local_added l.weight places) (added l.weight (local_graph graph (members_of component))) (length (members_of component)) same_cost
       (ends l.masks l.weight (local_graph graph (members_of component)) masks_fixed (length (members_of component))) l.budget
       l.masks masks_fixed (candidates_in l.masks masks_fixed (length (members_of component))) (l.budget - p.left) p.stopped)
 
-  module _ {p' : Progress} {best : Best} (found : Searched lists places l end p p' best) where
-    searched : state_after (length places) l p' best ≡ search_of graph (fixed_at fixed) component l p
+  module _ {p' : Progress} {best : Best} (found : Searched places own l end p p' best) where
+    searched : state_after (length own) l p' best ≡ search_of graph (fixed_at fixed) component l p
     searched = found.searched ∙ local_search
 
     pub one_searched : {result' : List ℕ} → result' ≡ put_masks order (take (length order) best.masks) result → OneSearched graph (fixed_at fixed) component l p p' result result'

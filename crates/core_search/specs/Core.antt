@@ -7,11 +7,10 @@ use Rattle.rules.specs.Search.{State, local_graph, local_fixed, search_from}
 use Rattle.rules.specs.Components.{components}
 use Rattle.rules.specs.Decomposition.{put_masks, Reached, search_all}
 use Rattle.adjacency.specs.Members.{members_of}
-use Rattle.adjacency.specs.UnitGraph.{unit_graph, unit_at, fixed_at}
-use Rattle.places.specs.LaidOut.{Exclusive}
+use Rattle.adjacency.specs.UnitGraph.{unit_graph, fixed_at}
 use Rattle.search.specs.declared.limits.Limits.{Limits}
 use Rattle.search.specs.declared.limits.Progress.{Progress}
-use Rattle.core_search.specs.declared.UnitGraph.{UnitGraph}
+use Rattle.core_search.specs.declared.graph.UnitGraph.{UnitGraph}
 
 -- the search of a component by the rules, with the steps that are left of the budget
 abbrev pub search_of : Graph → (ℕ → ℕ) → List ℕ → Limits → Progress → State
@@ -22,12 +21,6 @@ search_of g fixed component l p =
 -- the graph of units that the rules search
 abbrev pub graph_of : UnitGraph → Graph
 graph_of u = unit_graph u.edges.now.conflicts u.edges.now.stitches u.units.now (length u.units.now)
-
--- the edges of pieces, and their units
-pub record Sound (u : UnitGraph) : Type 0 where
-  pub exclusive : Exclusive u.edges.now.conflicts u.edges.now.stitches
-  pub few : length u.units.now ≤ 512
-  pub small : (i : ℕ) → i < length u.units.now → unit_at u.units.now i < 512
 
 -- what the search goes by, and of each vertex a place among the masks and a fixed mask that is one of them, where it has one
 pub record Given (fixed vertices : List ℕ) (l : Limits) (p : Progress) (result : List ℕ) : Type 0 where

@@ -3,23 +3,19 @@
 #![tactic(auto)]
 
 ghost use Rattle.std.specs.Prelude.{length};
-ghost use Rattle.core_search.specs.Core.{Sound, graph_of, Given, OneSearched, CoreSearched};
+ghost use Rattle.core_search.specs.Core.{graph_of, Given, OneSearched, CoreSearched};
 ghost use Rattle.adjacency.specs.UnitGraph.{fixed_at};
 ghost use Rattle.units.specs.Merged.{Merged};
+
+mod graph;
 
 use adjacency::EdgeSets;
 use bitset::BitSet;
 use early_end::library_end;
+pub use graph::UnitGraph;
 use places::Lists;
 use search::search_component;
 pub use search::{Limits, Progress};
-
-// The graph of units: the edges of pieces, and the unit of each.
-#[derive(Clone, Copy)]
-pub struct UnitGraph<'a> {
-    pub edges: &'a EdgeSets,
-    pub units: &'a [u16],
-}
 
 // Searches one component, and puts its masks down at the units' numbers. `fixed` has the units' fixed masks. What was in the lists says nothing.
 fn search_one(
@@ -31,7 +27,6 @@ fn search_one(
     progress: &mut Progress,
     res: &mut [u8],
 )
-    requires sound { Sound graph.now }
     requires given { Given fixed.now component.now limits progress.old res.old }
     ensures { OneSearched (graph_of graph.now) (fixed_at fixed.now) component.now limits progress.old progress.new res.old res.new }
 {
@@ -55,16 +50,12 @@ pub fn search_core(
     progress: &mut Progress,
     res: &mut [u8],
 )
-    requires sound { Sound graph.now }
     requires merged { Merged graph.now.edges.now.conflicts graph.now.units.now (length graph.now.units.now) merged.now.conflicts }
     requires merged_2 { Merged graph.now.edges.now.stitches graph.now.units.now (length graph.now.units.now) merged.now.stitches }
     requires given { Given fixed.now core.now limits progress.old res.old }
     ensures { CoreSearched (graph_of graph.now) (fixed_at fixed.now) core.now limits progress.old progress.new res.old res.new }
 {
-    let mut lists = Lists {
-        starts: [0; 1025],
-        entries: [0; 131584],
-    };
+    let mut lists = Lists::empty();
     let mut rest = *core;
     while let Some(v) = rest.lowest() {
         let component = components::component(&merged.conflicts, &merged.stitches, &rest, v);

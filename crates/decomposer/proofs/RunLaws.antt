@@ -35,8 +35,6 @@ use Rattle.units.specs.Noted.{NotedMasks, fitting}
 use Rattle.units.specs.Numbered.{UnitsOf}
 use Rattle.units.proofs.SplitLaws.{one_splits}
 use Rattle.fixed_masks.proofs.FixedLaws.{masks_length, fixed_asked}
-use Rattle.core_search.specs.declared.UnitGraph.{UnitGraph}
-use Rattle.core_search.specs.Core.{Sound}
 use Rattle.counting.proofs.ScoreLaws.{words_score}
 use Rattle.theory.proofs.Merging.{Grouping, number_in, between_same, spread_length, spread_only, spread_at}
 use Rattle.theory.proofs.FixedUnits.{units_below, fixable}
@@ -45,7 +43,7 @@ use Rattle.theory.proofs.SameEdges.{SameEdges, decompose_same, decompose_fixed}
 use Rattle.theory.proofs.Demand3.{demand3}
 use Rattle.decomposer.specs.declared.stages.Searched.{Searched}
 use Rattle.decomposer.specs.Stages.{HasPlaces, HasFixed, reached_of, Decomposed}
-use Rattle.decomposer.proofs.LayerWords.{one_kind_each, layer_edges}
+use Rattle.decomposer.proofs.LayerWords.{layer_edges}
 
 -- an outcome is not both
 passes_not : {number : ℕ} {place : Place} → ◌≡◌ {A = Outcome (Unit {0})} (done tt) (refused number place) → ⊥
@@ -64,13 +62,9 @@ module _ (s : Settings) (ps : List Piece) (valid : Valid s ps) where
           ap (unit_at units) (array.unit i l) ∙ array.unit (unit_of s ps i) (omega arith) ∙ (grouping s ps).again i l ∙ sym (array.unit i l);
     }
 
-    -- the graph of units is fit to be searched
-    pub layer_sound : (u : UnitGraph) → u.edges.now.conflicts ≡ conflicts → u.edges.now.stitches ≡ stitches → u.units.now ≡ units → Sound u
-    layer_sound u c t a = record {
-      exclusive = rw (c, t) (one_kind_each adjacency);
-      few = rw (a, array.whole) few;
-      small = λ i l. let inside : i < length ps = rw (a, array.whole) at l in rw a (omega (arith, array_grouping.lower i inside, inside, few));
-    }
+    -- the units are below 512, as the search wants them
+    pub layer_small : (i : ℕ) → i < length units → unit_at units i < 512
+    layer_small i l = let inside : i < length ps = rw array.whole at l in omega (arith, array_grouping.lower i inside, inside, few)
 
     -- units have places in a list of as many masks as pieces
     pub unit_places : (masks : List ℕ) → length masks ≡ length ps → HasPlaces all masks

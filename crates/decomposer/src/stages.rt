@@ -4,7 +4,7 @@ ghost use Rattle.rules.specs.Decomposition.{verdict_of};
 ghost use Rattle.rules.specs.Settings.{settings_in_range};
 ghost use Rattle.adjacency.specs.UnitGraph.{fixed_at};
 ghost use Rattle.units.specs.Merged.{Merged};
-ghost use Rattle.core_search.specs.Core.{Sound, graph_of};
+ghost use Rattle.core_search.specs.Core.{graph_of};
 ghost use Rattle.decomposer.specs.Stages.{HasPlaces, HasFixed, SearchedCore, Decomposed};
 
 use adjacency::EdgeSets;
@@ -41,7 +41,6 @@ fn search(
     masks: &mut [u8],
 ) -> Searched
     requires settings_value { settings_in_range settings ≡ true }
-    requires sound { Sound graph.now }
     requires merged { Merged graph.now.edges.now.conflicts graph.now.units.now (length graph.now.units.now) merged.now.conflicts }
     requires merged_2 { Merged graph.now.edges.now.stitches graph.now.units.now (length graph.now.units.now) merged.now.stitches }
     requires has_places { HasPlaces core.now masks.old }
@@ -49,10 +48,7 @@ fn search(
     ensures { SearchedCore settings (graph_of graph.now) (fixed_at fixed.now) core.now masks.old masks.new result }
 {
     let limits = Limits::from(settings);
-    let mut progress = Progress {
-        left: limits.budget,
-        stopped: false,
-    };
+    let mut progress = Progress::new(limits.budget);
     core_search::search_core(graph, merged, fixed, core, limits, &mut progress, masks);
     Searched {
         steps: settings.budget - progress.left as u32,
@@ -69,7 +65,6 @@ pub fn decompose_units(
     masks: &mut [u8],
 ) -> Searched
     requires settings_value { settings_in_range settings ≡ true }
-    requires sound { Sound graph.now }
     requires has_places { HasPlaces all.now masks.old }
     requires has_fixed { HasFixed settings.masks fixed.now all.now }
     ensures { Decomposed settings (graph_of graph.now) (fixed_at fixed.now) all.now masks.old masks.new result }

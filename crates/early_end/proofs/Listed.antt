@@ -3,40 +3,28 @@
 use mathlib.Core.Bool.{true}
 use mathlib.Core.List.{List}
 use mathlib.Core.Path.{◌≡◌, refl}
-use Prim.Native.Nat.{ℕ, zero, suc, ◌+◌, ◌-◌, ◌≤◌, ◌<◌}
+use Prim.Native.Nat.{ℕ, ◌<◌}
 use native.Mathlib.Omega.{arith}
 use lib.Dec.{eqb, ltb}
-use lib.ListN.{get_or}
+use lib.ListN.{length, get_or}
 use borrow.Author.Tests.{eq-eqb, lt-ltb}
-use Rattle.rules.specs.Basics.{given, sum_to}
+use Rattle.rules.specs.Basics.{count_of}
 use Rattle.rules.specs.Library.{unlisted, unlisted_at}
-use Rattle.rules.proofs.Lists.{any_found}
-use Rattle.places.specs.Local.{times_in, conflicts_at, stitches_at, end_at, list_graph, PlaceLists}
-use Rattle.early_end.proofs.Times.{times_none}
+use Rattle.rules.proofs.Lists.{any_found, place_in, count_some, length_keep, keep_no_longer}
+use Rattle.places.specs.Local.{Neighbours, conflicts_at, stitches_at, Earlier, list_graph}
 
--- a sum is no less than its first term
-first_term : (f : ℕ → ℕ) (n : ℕ) → f 0 ≤ sum_to f (suc n)
-unfolding sum_to
-first_term f zero = omega arith
-first_term f (suc n) = omega (arith, first_term f n)
-
--- the first entry of a list is in it
-first_in : (list : List ℕ) (a b : ℕ) → a < b → 0 < times_in list (get_or list a 0) a b
-first_in list a b h =
-    let u = get_or list a 0 in
-    let more : b - a ≡ suc (b - a - 1) = omega arith in
-    let one : given (eqb u (get_or list (a + 0) 0)) 1 ≡ 1 = let same : a + 0 ≡ a = omega arith in rw (same, eq-eqb u u refl) in
-    rw more (omega (arith, one, first_term (λ j. given (eqb u (get_or list (a + j) 0)) 1) (b - a - 1)))
-
-module _ (starts list : List ℕ) (v : ℕ) where
+module _ (places : List Neighbours) (v : ℕ) where
   -- a stitch list that is not empty has an earlier place
-  pub stitched : PlaceLists starts list v → stitches_at starts v < end_at starts v → unlisted_at (list_graph starts list) v ≡ true
-  stitched lists some =
-      let a = stitches_at starts v in
-      let u = get_or list a 0 in
-      any_found (λ u. unlisted (list_graph starts list) u v) v (lists.earlier a lists.conflicts some)
-      (rw (lt-ltb 0 (times_in list u a (end_at starts v)) (first_in list a (end_at starts v) some)))
+  pub stitched : Earlier v (stitches_at places v) → 0 < length (stitches_at places v) → unlisted_at (list_graph places) v ≡ true
+  stitched earlier some =
+      let list = stitches_at places v in
+      let u = get_or list 0 0 in
+      any_found (λ u. unlisted (list_graph places) u v) v (earlier 0 some)
+      (rw (lt-ltb 0 (count_of (eqb u) list) (count_some (eqb u) (place_in list 0 some) (eq-eqb u u refl))))
 
   -- an empty one has none
-  pub unstitched : end_at starts v ≤ stitches_at starts v → (u : ℕ) → unlisted (list_graph starts list) u v ≡ ltb 1 (times_in list u (conflicts_at starts v) (stitches_at starts v))
-  unstitched none u = rw (times_none list u (stitches_at starts v) (end_at starts v) none)
+  pub unstitched : length (stitches_at places v) ≡ 0 → (u : ℕ) → unlisted (list_graph places) u v ≡ ltb 1 (count_of (eqb u) (conflicts_at places v))
+  unstitched none u =
+      let list = stitches_at places v in
+      let zero : count_of (eqb u) list ≡ 0 = omega (arith, length_keep (eqb u) list, keep_no_longer (eqb u) list) in
+      rw zero

@@ -1,8 +1,8 @@
 // The cost at which the search of a component ends.
-ghost use Rattle.std.specs.Prelude.{◌≡◌, ℕ, ◌≤◌, ◌<◌, length};
+ghost use Rattle.std.specs.Prelude.{◌≡◌, ◌≤◌, ◌<◌, length};
 ghost use Rattle.rules.specs.Library.{value_of, library_bound};
-ghost use Rattle.places.specs.Local.{list_graph, PlaceLists};
-ghost use Rattle.first_assignment.specs.First.{fixed_to};
+ghost use Rattle.adjacency.specs.UnitGraph.{fixed_at};
+ghost use Rattle.places.specs.Local.{list_graph};
 ghost use Rattle.early_end.specs.Ends.{end_of};
 
 use crate::listed_edges::{all_listed, edge_counts};
@@ -15,18 +15,17 @@ fn index_of(counts: &[u64; 10]) -> usize
     requires { value_of counts.now < 1024 }
     ensures { result ≡ value_of counts.now }
 {
-    let mut index = 0;
-    for count in counts.iter().rev() {
-        index = *count + 2 * index;
-    }
-    index as usize
+    counts
+        .iter()
+        .rev()
+        .fold(0, |index, count| *count + 2 * index) as usize
 }
 
 // The cost at which the search ends, where the library serves the component. `fixed` has the fixed masks of its places.
 pub fn library_end(lists: &Lists, fixed: &[u8], masks: u64, weight: u64) -> Option<u64>
     requires size_bound { (length fixed.now ≤ 512) × (weight ≤ 1000) }
-    requires by_index { (k : ℕ) → k < length fixed.now → PlaceLists lists.now.starts lists.now.entries k }
-    ensures { result ≡ end_of (library_bound masks weight (list_graph lists.now.starts lists.now.entries) (fixed_to fixed.now (length fixed.now)) (length fixed.now)) }
+    requires places { length fixed.now ≤ length lists.now }
+    ensures { result ≡ end_of (library_bound masks weight (list_graph lists.now) (fixed_at fixed.now) (length fixed.now)) }
 {
     let size = fixed.len();
     if masks != 3 || 5 < size {

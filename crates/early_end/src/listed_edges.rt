@@ -1,32 +1,33 @@
 // The edges of a component's places, counted in their lists of earlier neighbours, and whether the library lists them.
-ghost use Rattle.std.specs.Prelude.{not, ◌≡◌, ℕ, ◌≤◌, ◌<◌, length};
-ghost use Rattle.rules.specs.Basics.{up_to, any_of};
+ghost use Rattle.std.specs.Prelude.{not, ◌≡◌, ◌≤◌, ◌<◌, eqb, length};
+ghost use Rattle.rules.specs.Basics.{up_to, any_of, count_of};
 ghost use Rattle.rules.specs.Library.{edges_below, pair_edges, unlisted_at};
-ghost use Rattle.places.specs.Local.{times_in, list_graph, PlaceLists};
+ghost use Rattle.places.specs.Local.{list_graph};
 
 use places::Lists;
 
 // How many of the neighbours are place u.
-fn times_in(neighbours: &[u16], u: u16) -> u64
-    ensures { result ≡ times_in neighbours.now u 0 (length neighbours.now) }
+fn times_in(neighbours: &[u16], u: usize) -> u64
+    ensures { result ≡ count_of (eqb u) neighbours.now }
 {
-    neighbours.iter().filter(|place| **place == u).count() as u64
+    neighbours
+        .iter()
+        .filter(|place| usize::from(**place) == u)
+        .count() as u64
 }
 
 // How many conflict edges place v has with the earlier place u.
-fn conflicts_at(lists: &Lists, u: u16, v: usize) -> u64
-    requires v_bound { v < 512 }
-    requires place_lists { PlaceLists lists.now.starts lists.now.entries v }
-    ensures { result ≡ (list_graph lists.now.starts lists.now.entries).conflicts u v }
+fn conflicts_at(lists: &Lists, u: usize, v: usize) -> u64
+    requires { v < length lists.now }
+    ensures { result ≡ (list_graph lists.now).conflicts u v }
 {
     times_in(lists.conflicts_of(v), u)
 }
 
 // The same where v is below `size`, else 0.
-fn edges_at(lists: &Lists, size: usize, u: u16, v: usize) -> u64
-    requires size_bound { size ≤ 512 }
-    requires by_index { (k : ℕ) → k < size → PlaceLists lists.now.starts lists.now.entries k }
-    ensures { result ≡ edges_below (list_graph lists.now.starts lists.now.entries) size u v }
+fn edges_at(lists: &Lists, size: usize, u: usize, v: usize) -> u64
+    requires { size ≤ length lists.now }
+    ensures { result ≡ edges_below (list_graph lists.now) size u v }
 {
     if v < size {
         conflicts_at(lists, u, v)
@@ -37,11 +38,10 @@ fn edges_at(lists: &Lists, size: usize, u: u16, v: usize) -> u64
 
 // The edges of the ten pairs of five places, in the order of the library's bits.
 pub fn edge_counts(lists: &Lists, size: usize) -> [u64; 10]
-    requires size_bound { size ≤ 512 }
-    requires by_index { (k : ℕ) → k < size → PlaceLists lists.now.starts lists.now.entries k }
-    ensures { result ≡ pair_edges (list_graph lists.now.starts lists.now.entries) size }
+    requires { size ≤ length lists.now }
+    ensures { result ≡ pair_edges (list_graph lists.now) size }
 {
-    let at = |u: u16, v: usize| edges_at(lists, size, u, v);
+    let at = |u: usize, v: usize| edges_at(lists, size, u, v);
     [
         at(0, 1),
         at(0, 2),
@@ -56,34 +56,18 @@ pub fn edge_counts(lists: &Lists, size: usize) -> [u64; 10]
     ]
 }
 
-// Whether place v has no stitch edge to an earlier place, and no conflict edge that is doubled. Here and below by a loop, since the proof over
-// `all` did not close.
+// Whether place v has no stitch edge to an earlier place, and no conflict edge that is doubled.
 fn place_listed(lists: &Lists, v: usize) -> bool
-    requires v_bound { v < 512 }
-    requires place_lists { PlaceLists lists.now.starts lists.now.entries v }
-    ensures { result ≡ not (unlisted_at (list_graph lists.now.starts lists.now.entries) v) }
+    requires { v < length lists.now }
+    ensures { result ≡ not (unlisted_at (list_graph lists.now) v) }
 {
-    if !lists.stitches_of(v).is_empty() {
-        return false;
-    }
-    for u in 0..v {
-        if 1 < conflicts_at(lists, u as u16, v) {
-            return false;
-        }
-    }
-    true
+    lists.stitches_of(v).is_empty() && (0..v).all(|u| conflicts_at(lists, u, v) <= 1)
 }
 
 // Whether the library lists the edges of all places.
 pub fn all_listed(lists: &Lists, size: usize) -> bool
-    requires size_bound { size ≤ 512 }
-    requires by_index { (k : ℕ) → k < size → PlaceLists lists.now.starts lists.now.entries k }
-    ensures { result ≡ not (any_of (unlisted_at (list_graph lists.now.starts lists.now.entries)) (up_to size)) }
+    requires { size ≤ length lists.now }
+    ensures { result ≡ not (any_of (unlisted_at (list_graph lists.now)) (up_to size)) }
 {
-    for v in 0..size {
-        if !place_listed(lists, v) {
-            return false;
-        }
-    }
-    true
+    (0..size).all(|v| place_listed(lists, v))
 }

@@ -1,44 +1,22 @@
 -- The first assignment, place by place, and the least of a row, mask by mask. Assumes nothing.
 use mathlib.Core.Bool.{true, not, cond}
 use mathlib.Core.List.{List, [], ◌∷◌, ◌++◌}
-use mathlib.Core.Logic.{◌⊎◌, ⊎_elim}
 use mathlib.Core.Path.{◌≡◌, refl, sym, ap, ap₂, subst, subst⁻¹, ◌∙◌}
 use Prim.Native.Nat.{ℕ, zero, suc, ◌+◌, ◌-◌, ◌*◌, ◌≤◌, ◌<◌}
-use native.Mathlib.Numerals.{add-one}
 use native.Mathlib.Omega.{arith}
-use lib.Dec.{eqb, ltb}
+use lib.Dec.{eqb}
 use lib.ListN.{length, get_or, take, set, length-set}
-use lib.Seq.{length-take-le, get_or-take}
-use borrow.Author.Tests.{lt-ltb, le-ltb}
+use lib.Seq.{take-length, length-take-le, get_or-take}
 use Rattle.rules.specs.Settings.{unset}
 use Rattle.rules.specs.Search.{cheapest, first_after, first_mask, total, total_after}
 use Rattle.rules.proofs.Tests.{by_test}
 use Rattle.theory.proofs.Search.{cheapest_below, total_snoc}
-use Rattle.places.specs.Local.{local_added}
+use Rattle.places.specs.Local.{Neighbours, local_added}
 use Rattle.first_assignment.specs.First.{FixedLow, FirstOf}
+use Rattle.first_assignment.proofs.Cheapest.{cheapest_one}
 use Rattle.first_assignment.proofs.Stored.{take_stored, stored_low}
 
 -- ---- The least of a row
-
-module _ (f : ℕ → ℕ) where
-  pub cheapest_one : cheapest f 1 ≡ 0
-  unfolding cheapest
-  cheapest_one = by_test (ltb (f 0) (f 0)) (λ e. rw e) (λ e. rw e)
-
-  pub cheapest_new : (m : ℕ) → f m < f (cheapest f m) → cheapest f (m + 1) ≡ m
-  unfolding cheapest
-  cheapest_new m h = rw (add-one m, lt-ltb (f m) (f (cheapest f m)) h)
-
-  pub cheapest_old : (m : ℕ) → f (cheapest f m) ≤ f m → cheapest f (m + 1) ≡ cheapest f m
-  unfolding cheapest
-  cheapest_old m h = rw (add-one m, le-ltb (f m) (f (cheapest f m)) h)
-
--- b is the mask m or the best before it, whichever is less
-pub cheapest_next : (f : ℕ → ℕ) (best m b : ℕ) → best ≡ cheapest f m → ((f m < f best) × (b ≡ m)) ⊎ ((f best ≤ f m) × (b ≡ best)) → b ≡ cheapest f (m + 1)
-cheapest_next f best m b e w = ⊎_elim
-    (λ h. h.1 ∙ sym (cheapest_new f m (omega (arith, h.0, ap f e))))
-    (λ h. h.1 ∙ e ∙ sym (cheapest_old f m (omega (arith, h.0, ap f e))))
-    w
 
 -- it looks at the numbers below k alone
 pub cheapest-same : (f g : ℕ → ℕ) (k : ℕ) → ((m : ℕ) → m < k → f m ≡ g m) → cheapest f k ≡ cheapest g k
@@ -68,37 +46,41 @@ taken_low f row K some low = by_test (not (eqb f unset)) (λ e. rw e (low e)) (�
 -- ---- Place by place
 
 -- The places below k are filled, at the given cost.
-pub record Filled (K weight : ℕ) (starts list : List ℕ) (fixed : ℕ → ℕ) (size : ℕ) (partial : List ℕ) (cost k : ℕ) : Type 0 where
+pub record Filled (K weight : ℕ) (places : List Neighbours) (fixed : ℕ → ℕ) (size : ℕ) (partial : List ℕ) (cost k : ℕ) : Type 0 where
   pub at : k ≤ size
-  pub whole : length partial ≡ 512
+  pub whole : length partial ≡ size
   pub low : (i : ℕ) → i < k → get_or partial i 0 < 8
-  pub masks : let pick = first_mask (local_added weight starts list) K fixed in first_after pick (size - k) (take k partial) ≡ first_after pick size []
-  pub total : cost ≡ total (local_added weight starts list) (take k partial)
+  pub masks : let pick = first_mask (local_added weight places) K fixed in first_after pick (size - k) (take k partial) ≡ first_after pick size []
+  pub total : cost ≡ total (local_added weight places) (take k partial)
   pub cheap : cost ≤ 131_715_584 * k
 
-module _ (K weight : ℕ) (starts list : List ℕ) (fixed : ℕ → ℕ) (size : ℕ) where
+module _ (K weight : ℕ) (places : List Neighbours) (fixed : ℕ → ℕ) (size : ℕ) where
   abbrev add : List ℕ → ℕ → ℕ
-  add = local_added weight starts list
+  add = local_added weight places
 
   abbrev pick : List ℕ → ℕ
   pick = first_mask add K fixed
 
-  pub filled_none : (partial : List ℕ) → length partial ≡ 512 → Filled K weight starts list fixed size partial 0 0
+  pub filled_none : (partial : List ℕ) → length partial ≡ size → Filled K weight places fixed size partial 0 0
   unfolding total_after
   filled_none partial e = record { at = omega arith; whole = e; low = λ i h. absurd (omega arith); masks = let all : size - 0 ≡ size = omega arith in ap (λ (n : ℕ). first_after pick n []) all; total = refl; cheap = omega arith }
 
-  pub filled_all : {partial : List ℕ} {cost k : ℕ} → size ≤ k → Filled K weight starts list fixed size partial cost k → FirstOf K weight starts list fixed size partial cost
+  pub filled_all : {partial : List ℕ} {cost k : ℕ} → size ≤ k → Filled K weight places fixed size partial cost k → FirstOf K weight places fixed size partial cost
   unfolding first_after
   filled_all {partial} {cost} {k} h f =
       let end : k ≡ size = omega (arith, f.at) in
       let none : size - k ≡ 0 = omega arith in
-      let masks : take k partial ≡ first_after pick size [] = ap (λ (n : ℕ). first_after pick n (take k partial)) (sym none) ∙ f.masks in
-      record { masks = ap (λ (n : ℕ). take n partial) (sym end) ∙ masks; cost = f.total ∙ ap (λ (n : ℕ). total add (take n partial)) end; whole = f.whole }
+      let all : take k partial ≡ partial = ap (λ (n : ℕ). take n partial) (end ∙ sym f.whole) ∙ take-length partial in
+      record {
+        masks = sym all ∙ ap (λ (n : ℕ). first_after pick n (take k partial)) (sym none) ∙ f.masks;
+        cost = f.total ∙ ap (total add) all;
+        size = f.whole;
+      }
 
   -- the mask that is taken is stored at k, and its cost added
   pub filled_next : {partial : List ℕ} {cost k : ℕ} (f : ℕ) (row : List ℕ) → size ≤ 512 → 1 ≤ K → K ≤ 8 → k < size → FixedLow fixed size K
       → f ≡ fixed k → ((x : ℕ) → x < 8 → get_or row x 0 ≤ 131_715_584) → ((x : ℕ) → x < 8 → get_or row x 0 ≡ add (take k partial) x) → {m : ℕ} → m ≡ taken f row K
-      → Filled K weight starts list fixed size partial cost k → Filled K weight starts list fixed size (set partial k m) (cost + get_or row m 0) (k + 1)
+      → Filled K weight places fixed size partial cost k → Filled K weight places fixed size (set partial k m) (cost + get_or row m 0) (k + 1)
   unfolding first_after first_mask
   filled_next {partial} {cost} {k} f row few some masks h low read small adds {m} is filled =
       let there : k < length partial = omega (arith, filled.whole) in

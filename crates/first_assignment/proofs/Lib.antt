@@ -1,4 +1,5 @@
 -- Laws of the first assignment.
 pub mod Any
 pub mod Stored
+pub mod Cheapest
 pub mod Firsts

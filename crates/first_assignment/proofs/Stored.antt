@@ -1,20 +1,13 @@
 -- Arrays of masks: the fixed mask that is read at a place, and the masks up to one that is stored. Assumes nothing.
 use mathlib.Core.List.{List, [], ◌∷◌, ◌++◌}
 use mathlib.Core.Logic.{by_cases}
-use mathlib.Core.Path.{◌≡◌, sym, subst, ◌∙◌}
-use Prim.Native.Nat.{ℕ, ◌+◌, ◌≤◌, ◌<◌}
+use mathlib.Core.Path.{◌≡◌, sym, subst}
+use Prim.Native.Nat.{ℕ, ◌+◌, ◌<◌}
 use native.Mathlib.Decide.{ℕ_discrete}
 use native.Mathlib.Numerals.{add-one}
 use native.Mathlib.Omega.{arith}
 use lib.ListN.{length, get_or, take, set}
-use lib.Seq.{take-suc-set, get_or-take, get_or-set_same, get_or-set_other}
-use Rattle.rules.specs.Settings.{unset}
-use Rattle.rules.proofs.Lists.{default_same}
-use Rattle.first_assignment.specs.First.{fixed_to}
-
--- the byte that is read at a place is its fixed mask
-pub fixed_read : (fixed : List ℕ) (n i : ℕ) → i < n → n ≤ length fixed → get_or fixed i 0 ≡ fixed_to fixed n i
-fixed_read fixed n i h l = default_same fixed i 0 unset (omega arith) ∙ sym (get_or-take n fixed i unset h)
+use lib.Seq.{take-suc-set, get_or-set_same, get_or-set_other}
 
 -- the masks before p and the one stored there
 pub take_stored : (l : List ℕ) (p m : ℕ) → p < length l → take (p + 1) (set l p m) ≡ take p l ++ (m ∷ [])

@@ -4,25 +4,19 @@ ghost use Rattle.rules.specs.Basics.{up_to, any_of};
 ghost use Rattle.rules.specs.Settings.{unset};
 ghost use Rattle.rules.specs.Peeling.{is_fixed};
 ghost use Rattle.rules.specs.Search.{cheapest};
-ghost use Rattle.places.specs.Local.{PlaceLists};
-ghost use Rattle.first_assignment.specs.First.{fixed_to, FixedLow, FirstOf};
+ghost use Rattle.adjacency.specs.UnitGraph.{fixed_at};
+ghost use Rattle.first_assignment.specs.First.{FixedLow, FirstOf};
 
 use places::Lists;
 use rows::{Table, added_row};
-use rules::Piece;
+use rules::stated_mask;
 
-// The mask of which the cost is least, the lowest on a tie. By a loop, since the proof over an iterator's least did not close.
+// The mask of which the cost is least, the lowest on a tie.
 fn cheapest_mask(costs: &[u32]) -> usize
     requires { 1 ≤ length costs.now }
     ensures { result ≡ cheapest (λ m. get_or costs.now m 0) (length costs.now) }
 {
-    let mut best = 0;
-    for (m, cost) in costs.iter().enumerate() {
-        if *cost < costs[best] {
-            best = m;
-        }
-    }
-    best
+    (0..costs.len()).min_by_key(|m| costs[*m]).unwrap_or(0)
 }
 
 // The fixed mask, or else the cheapest one.
@@ -30,17 +24,17 @@ fn first_mask(costs: &[u32], fixed: u8) -> usize
     requires { 1 ≤ length costs.now }
     ensures { result ≡ cond (not (eqb fixed unset)) fixed (cheapest (λ m. get_or costs.now m 0) (length costs.now)) }
 {
-    if fixed != Piece::UNSET {
-        return usize::from(fixed);
+    match stated_mask(fixed) {
+        Some(mask) => usize::from(mask),
+        None => cheapest_mask(costs),
     }
-    cheapest_mask(costs)
 }
 
 // Whether a place is fixed.
 pub fn has_fixed(fixed: &[u8]) -> bool
-    ensures { result ≡ any_of (is_fixed (fixed_to fixed.now (length fixed.now))) (up_to (length fixed.now)) }
+    ensures { result ≡ any_of (is_fixed (fixed_at fixed.now)) (up_to (length fixed.now)) }
 {
-    fixed.iter().any(|mask| *mask != Piece::UNSET)
+    fixed.iter().any(|mask| stated_mask(*mask).is_some())
 }
 
 // Fills the places, of which `fixed` has the fixed masks, and answers what that costs.
@@ -49,12 +43,13 @@ pub fn first_assignment(
     table: &Table,
     fixed: &[u8],
     masks: u64,
-    partial: &mut [u8; 512],
+    partial: &mut [u8],
 ) -> u64
     requires size_bound { (length fixed.now ≤ 512) × (1 ≤ masks) × (masks ≤ 8) }
-    requires fixed_low { FixedLow (fixed_to fixed.now (length fixed.now)) (length fixed.now) masks }
-    requires by_index { (k : ℕ) → k < length fixed.now → PlaceLists lists.now.starts lists.now.entries k }
-    ensures { FirstOf masks table.now.weight lists.now.starts lists.now.entries (fixed_to fixed.now (length fixed.now)) (length fixed.now) partial.new result }
+    requires fixed_low { FixedLow (fixed_at fixed.now) (length fixed.now) masks }
+    requires places { length fixed.now ≤ length lists.now }
+    requires room { length partial.old ≡ length fixed.now }
+    ensures { FirstOf masks table.now lists.now (fixed_at fixed.now) (length fixed.now) partial.new result }
 {
     let mut cost = 0;
     for (k, own) in fixed.iter().enumerate() {

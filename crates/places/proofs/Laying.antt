@@ -1,94 +1,86 @@
--- Laying places out, one after the other: their lists, and where these begin. Assumes nothing.
-use mathlib.Core.List.{List, []}
+-- Parts of entries, appended one after the other, each with its start. Assumes nothing.
+use mathlib.Core.List.{List, [], ◌∷◌, ◌++◌}
 use mathlib.Core.Logic.{⊎_elim}
-use mathlib.Core.Path.{◌≡◌, sym, ap, ap₂, subst, ◌∙◌}
-use Prim.Native.Nat.{ℕ, ◌+◌, ◌-◌, ◌*◌, ◌≤◌, ◌<◌}
+use mathlib.Core.Path.{◌≡◌, refl, sym, ap, ap₂, subst⁻¹, ◌∙◌}
+use Prim.Native.Nat.{ℕ, ◌+◌, ◌-◌, ◌≤◌, ◌<◌}
 use native.Mathlib.Omega.{arith}
-use lib.ListN.{length, get_or, set, length-set}
-use lib.Seq.{get_or-set_same, get_or-set_other}
-use Rattle.rules.specs.Edges.{Graph}
+use lib.ListN.{length, get_or, take, drop, length-append, get_or-append}
+use lib.Seq.{take-length, drop-append_seam, get_or-append_seam}
+use Rattle.std.proofs.lemmas.List.{take-append-le, drop-append-le, length-drop}
+use Rattle.std.specs.List.{slice_range}
 use Rattle.rules.proofs.Tests.{lt_or_ge}
-use Rattle.theory.proofs.EdgeLists.{Lists}
-use Rattle.places.specs.Local.{conflicts_at, stitches_at, end_at}
-use Rattle.places.specs.Storing.{entries, Stored}
-use Rattle.places.proofs.Entries.{entries_same, stored_all}
+use Rattle.places.specs.Parts.{part_at}
 
--- place j is laid out, with lists of its edges in a graph of places that end at `end` or before
-pub record PlaceAt (g : Graph) (starts list : List ℕ) (end j : ℕ) : Type 0 where
-  pub conflicts : conflicts_at starts j ≤ stitches_at starts j
-  pub stitches : stitches_at starts j ≤ end_at starts j
-  pub inside : end_at starts j ≤ end
-  pub conflict_lists : Lists g.conflicts j (entries list (conflicts_at starts j) (stitches_at starts j - conflicts_at starts j))
-  pub stitch_lists : Lists g.stitches j (entries list (stitches_at starts j) (end_at starts j - stitches_at starts j))
+-- a range of a list stays where more is appended
+range_append : (xs ys : List ℕ) (a b : ℕ) → a ≤ b → b ≤ length xs → slice_range (xs ++ ys) a b ≡ slice_range xs a b
+range_append xs ys a b h l =
+    let inside : a ≤ length xs = omega arith in
+    let short : b - a ≤ length (drop a xs) = omega (arith, length-drop a xs) in
+    ap (take (b - a)) (drop-append-le a xs ys inside) ∙ take-append-le (b - a) (drop a xs) ys short
 
--- the places below k are laid out, and the next lists begin at `end`
-pub record Laid (g : Graph) (starts list : List ℕ) (end k : ℕ) : Type 0 where
-  pub long : length starts ≡ 1025
-  pub whole : length list ≡ 131_584
-  pub here : get_or starts (2 * k) 0 ≡ end
-  pub place : (j : ℕ) → j < k → PlaceAt g starts list end j
+-- the range that is appended
+range_last : (xs ys : List ℕ) → slice_range (xs ++ ys) (length xs) (length (xs ++ ys)) ≡ ys
+range_last xs ys =
+    let size : length (xs ++ ys) - length xs ≡ length ys = omega (arith, length-append xs ys) in
+    ap₂ (λ (n : ℕ) (zs : List ℕ). take n zs) size (drop-append_seam xs ys) ∙ take-length ys
 
--- a place's lists stay, where their bounds and entries do
-place_same : {g : Graph} {starts starts' list list' : List ℕ} {end end' j : ℕ} → PlaceAt g starts list end j
-    → conflicts_at starts' j ≡ conflicts_at starts j → stitches_at starts' j ≡ stitches_at starts j → end_at starts' j ≡ end_at starts j
-    → ((i : ℕ) → i < end → get_or list' i 0 ≡ get_or list i 0) → end ≤ end' → PlaceAt g starts' list' end' j
-place_same {g} {starts} {starts'} {list} {list'} {end} {end'} {j} p first second third same more = record {
-  conflicts = omega (arith, p.conflicts);
-  stitches = omega (arith, p.stitches);
-  inside = omega (arith, p.inside);
-  conflict_lists = subst (Lists g.conflicts j)
-      (sym (ap₂ (λ (a b : ℕ). entries list' a (b - a)) first second
-      ∙ entries_same list' list _ _ (λ i h m. same i (omega (arith, p.conflicts, p.stitches, p.inside)))))
-      p.conflict_lists;
-  stitch_lists = subst (Lists g.stitches j)
-      (sym (ap₂ (λ (a b : ℕ). entries list' a (b - a)) second third
-      ∙ entries_same list' list _ _ (λ i h m. same i (omega (arith, p.stitches, p.inside)))))
-      p.stitch_lists;
+-- n parts are there, and each meets P
+pub record PartsTo (P : ℕ → List ℕ → Type 0) (starts entries : List ℕ) (n : ℕ) : Type 0 where
+  pub long : length starts ≡ n + 1
+  pub last : get_or starts n 0 ≡ length entries
+  pub rising : (i : ℕ) → i < n → get_or starts i 0 ≤ get_or starts (i + 1) 0
+  pub within : (i : ℕ) → i ≤ n → get_or starts i 0 ≤ length entries
+  pub part : (i : ℕ) → i < n → P i (part_at starts entries i)
+
+pub parts_none : (P : ℕ → List ℕ → Type 0) → PartsTo P (0 ∷ []) [] 0
+parts_none P = record {
+  long = refl;
+  last = refl;
+  rising = λ i h. absurd (omega arith);
+  within = λ i h. let e : i ≡ 0 = omega arith in subst⁻¹ (λ (j : ℕ). get_or (0 ∷ []) j 0 ≤ 0) e (omega arith);
+  part = λ i h. absurd (omega arith);
 }
 
-module _ {g : Graph} {starts list list₁ list₂ conflicts stitches : List ℕ} {end end₁ end₂ k : ℕ} (small : k < 512) (laid : Laid g starts list end k)
-    (one : Stored conflicts [] end list list₁ end₁) (two : Stored stitches [] end₁ list₁ list₂ end₂)
-    (conflict_lists : Lists g.conflicts k conflicts) (stitch_lists : Lists g.stitches k stitches) where
-  abbrev next : List ℕ
-  next = set (set starts (2 * k + 1) end₁) (2 * k + 2) end₂
+module _ {P : ℕ → List ℕ → Type 0} {starts entries starts' entries' : List ℕ} {n e : ℕ} (parts : PartsTo P starts entries n)
+    (xs : List ℕ) (more : entries' ≡ entries ++ xs) (end : e ≡ length entries') (mark : starts' ≡ starts ++ (e ∷ [])) where
+  old : (i : ℕ) → i ≤ n → get_or starts' i 0 ≡ get_or starts i 0
+  old i h = ap (λ (l : List ℕ). get_or l i 0) mark ∙ get_or-append starts (e ∷ []) 0 i (omega (arith, parts.long))
 
-  -- what was marked before stays
-  earlier : (i : ℕ) → i ≤ 2 * k → get_or next i 0 ≡ get_or starts i 0
-  earlier i h = get_or-set_other (set starts (2 * k + 1) end₁) (2 * k + 2) i end₂ 0 (λ q. omega arith) ∙ get_or-set_other starts (2 * k + 1) i end₁ 0 (λ q. omega arith)
+  new : get_or starts' (n + 1) 0 ≡ length entries'
+  new = ap₂ (λ (l : List ℕ) (i : ℕ). get_or l i 0) mark (sym parts.long) ∙ get_or-append_seam starts e [] 0 ∙ end
 
-  middle : get_or next (2 * k + 1) 0 ≡ end₁
-  middle = get_or-set_other (set starts (2 * k + 1) end₁) (2 * k + 2) (2 * k + 1) end₂ 0 (λ q. omega arith) ∙ get_or-set_same starts (2 * k + 1) end₁ 0 (omega (arith, laid.long))
+  grown : length entries ≤ length entries'
+  grown = omega (arith, ap length more, length-append entries xs)
 
-  last : get_or next (2 * k + 2) 0 ≡ end₂
-  last = get_or-set_same (set starts (2 * k + 1) end₁) (2 * k + 2) end₂ 0 (omega (arith, length-set starts (2 * k + 1) end₁, laid.long))
+  kept : (i : ℕ) → i < n → part_at starts' entries' i ≡ part_at starts entries i
+  kept i h =
+      ap₂ (λ (a b : ℕ). slice_range entries' a b) (old i (omega arith)) (old (i + 1) (omega arith))
+      ∙ ap (λ (l : List ℕ). part_at starts l i) more
+      ∙ range_append entries xs (get_or starts i 0) (get_or starts (i + 1) 0) (parts.rising i h) (parts.within (i + 1) (omega arith))
 
-  old_entries : (i : ℕ) → i < end → get_or list₂ i 0 ≡ get_or list i 0
-  old_entries i h = two.kept i (omega (arith, one.start)) ∙ one.kept i h
+  here : part_at starts' entries' n ≡ xs
+  here =
+      ap₂ (λ (a b : ℕ). slice_range entries' a b) (old n (omega arith) ∙ parts.last) new
+      ∙ ap (λ (l : List ℕ). slice_range l (length entries) (length l)) more
+      ∙ range_last entries xs
 
-  place_here : PlaceAt g next list₂ end₂ k
-  place_here =
-      let first : conflicts_at next k ≡ end = earlier (2 * k) (omega arith) ∙ laid.here in
-      record {
-        conflicts = omega (arith, first, middle, one.start);
-        stitches = omega (arith, middle, last, two.start);
-        inside = omega (arith, last);
-        conflict_lists = subst (Lists g.conflicts k)
-            (sym (ap₂ (λ (a b : ℕ). entries list₂ a (b - a)) first middle
-            ∙ entries_same list₂ list₁ end (end₁ - end) (λ i h m. two.kept i (omega (arith, one.start))) ∙ stored_all one))
-            conflict_lists;
-        stitch_lists = subst (Lists g.stitches k) (sym (ap₂ (λ (a b : ℕ). entries list₂ a (b - a)) middle last ∙ stored_all two)) stitch_lists;
-      }
-
-  -- both lists of place k were stored and marked
-  pub laid_next : Laid g next list₂ end₂ (k + 1)
-  laid_next =
-      let at : 2 * (k + 1) ≡ 2 * k + 2 = omega arith in
-      record {
-        long = length-set (set starts (2 * k + 1) end₁) (2 * k + 2) end₂ ∙ length-set starts (2 * k + 1) end₁ ∙ laid.long;
-        whole = two.whole;
-        here = ap (λ (i : ℕ). get_or next i 0) at ∙ last;
-        place = λ j h. ⊎_elim
-            (λ l. place_same (laid.place j l) (earlier (2 * j) (omega arith)) (earlier (2 * j + 1) (omega arith)) (earlier (2 * j + 2) (omega arith)) old_entries (omega (arith, one.start, two.start)))
-            (λ l. let e : k ≡ j = omega arith in subst (PlaceAt g next list₂ end₂) e place_here)
-            (lt_or_ge j k);
-      }
+  -- one part more is appended, and marked
+  pub parts_next : P n xs → PartsTo P starts' entries' (n + 1)
+  parts_next p = record {
+    long = ap length mark ∙ omega (arith, length-append starts (e ∷ []), parts.long);
+    last = new;
+    rising = λ i h. ⊎_elim
+        (λ l. omega (arith, old i (omega arith), old (i + 1) (omega arith), parts.rising i l))
+        (λ l.
+        let at : i ≡ n = omega arith in
+        subst⁻¹ (λ (j : ℕ). get_or starts' j 0 ≤ get_or starts' (j + 1) 0) at (omega (arith, old n (omega arith), new, parts.last, grown)))
+        (lt_or_ge i n);
+    within = λ i h. ⊎_elim
+        (λ l. omega (arith, old i (omega arith), parts.within i (omega arith), grown))
+        (λ l. let at : i ≡ n + 1 = omega arith in subst⁻¹ (λ (j : ℕ). get_or starts' j 0 ≤ length entries') at (omega (arith, new)))
+        (lt_or_ge i (n + 1));
+    part = λ i h. ⊎_elim
+        (λ l. subst⁻¹ (P i) (kept i l) (parts.part i l))
+        (λ l. let at : i ≡ n = omega arith in subst⁻¹ (λ (j : ℕ). P j (part_at starts' entries' j)) at (subst⁻¹ (P n) here p))
+        (lt_or_ge i n);
+  }

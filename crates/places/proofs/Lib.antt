@@ -1,8 +1,7 @@
 -- Laws of the pieces of units, of lists of neighbours, and of the order of places.
 pub mod Members
 pub mod Seating
-pub mod Entries
-pub mod Neighbours
+pub mod Appending
 pub mod Counting
 pub mod Laying
 pub mod LocalCost

@@ -1,4 +1,4 @@
 pub mod Local
+pub mod Parts
 pub mod Seats
-pub mod Storing
 pub mod LaidOut

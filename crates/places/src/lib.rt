@@ -7,6 +7,7 @@ mod fixed;
 mod lists;
 mod order;
 mod pieces;
+mod seats;
 
 pub use fixed::local_fixed;
 pub use lists::Lists;

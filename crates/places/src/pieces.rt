@@ -2,8 +2,6 @@
 ghost use Rattle.std.specs.Prelude.{false, [], ◌≡◌, ◌&&◌, ℕ, ◌≤◌, ◌<◌, eqb, ltb, length, get_or};
 ghost use Rattle.bitset.specs.Bits.{member};
 ghost use Rattle.adjacency.specs.UnitGraph.{unit_at};
-ghost use Rattle.adjacency.specs.Members.{members_of};
-ghost use Rattle.places.specs.Seats.{Seated};
 
 use bitset::BitSet;
 
@@ -17,16 +15,5 @@ pub fn pieces_of_units(units: &[u16], pieces: &mut [BitSet; 512])
 {
     for (q, unit) in units.iter().enumerate() {
         pieces[usize::from(*unit)].put(q);
-    }
-}
-
-// Puts the pieces of a unit into the set, and notes that their place is k.
-pub fn seat_pieces(pieces: &BitSet, k: usize, there: &mut BitSet, seats: &mut [u16; 512])
-    requires { k < 512 }
-    ensures { Seated (members_of pieces.now) k there.old there.new seats.old seats.new }
-{
-    for p in pieces.members() {
-        there.put(p);
-        seats[p] = k as u16;
     }
 }

@@ -3,11 +3,6 @@
 use Rattle.std.specs.Prelude.{List, [], ◌≡◌, ℕ, ◌≤◌, ◌<◌, eqb, get_or}
 use Rattle.rules.specs.Basics.{given}
 
--- what a table is for: a weight, and the fixed masks of places
-pub record Weighing : Type 0 where
-  pub weight : ℕ
-  pub fixed : List ℕ
-
 -- the number at m in row h
 abbrev pub weight_at : List (List ℕ) → ℕ → ℕ → ℕ
 weight_at rows h m = get_or (get_or rows h []) m 0

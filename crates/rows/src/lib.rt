@@ -1,5 +1,5 @@
 // What each mask adds at a place of a component's local problem (RULES 6): one pass over the place's earlier neighbours fills a row of eight costs,
-// by a table of the weight, which holds the fixed masks of the places as well. The first assignment and the search stand on this crate.
+// by a table of the weight. The first assignment and the search stand on this crate.
 #![tactic(auto)]
 
 mod row;

@@ -1,7 +1,7 @@
 // What each mask adds at a place, against its earlier neighbours: one pass over them fills a row, so that a mask that is tried costs
 // one comparison.
 ghost use Rattle.std.specs.Prelude.{◌≡◌, ℕ, ◌+◌, ◌*◌, ◌^◌, ◌≤◌, ◌<◌, length, get_or};
-ghost use Rattle.places.specs.Local.{on_mask, local_added, PlaceLists};
+ghost use Rattle.places.specs.Local.{Earlier, on_mask, local_added};
 
 use crate::table::Table;
 use places::Lists;
@@ -19,10 +19,10 @@ fn add_each(sums: &mut [u32; 8], more: &[u32; 8])
 // Adds the weight for each conflict neighbour, to the cost of its mask.
 fn add_conflicts(sums: &mut [u32; 8], table: &Table, neighbours: &[u16], before: &[u8])
     requires few { length neighbours.now ≤ 131584 }
-    requires earlier { (i : ℕ) → i < length neighbours.now → get_or neighbours.now i 0 < length before.now }
+    requires earlier { Earlier (length before.now) neighbours.now }
     requires low { (i : ℕ) → i < length before.now → get_or before.now i 0 < 8 }
     requires small { (m : ℕ) → m < 8 → get_or sums.old m 0 ≤ 131584 }
-    ensures adds { (m : ℕ) → m < 8 → get_or sums.new m 0 ≡ get_or sums.old m 0 + table.now.weight * on_mask neighbours.now before.now m 0 (length neighbours.now) }
+    ensures adds { (m : ℕ) → m < 8 → get_or sums.new m 0 ≡ get_or sums.old m 0 + table.now * on_mask before.now m neighbours.now }
     ensures few_more { (m : ℕ) → m < 8 → get_or sums.new m 0 ≤ get_or sums.old m 0 + 1000 * length neighbours.now }
 {
     let weights = &table.weights;
@@ -33,10 +33,10 @@ fn add_conflicts(sums: &mut [u32; 8], table: &Table, neighbours: &[u16], before:
 
 // Takes one off for each stitch neighbour, from the cost of its mask.
 fn drop_stitches(sums: &mut [u32; 8], neighbours: &[u16], before: &[u8])
-    requires earlier { (i : ℕ) → i < length neighbours.now → get_or neighbours.now i 0 < length before.now }
+    requires earlier { Earlier (length before.now) neighbours.now }
     requires low { (i : ℕ) → i < length before.now → get_or before.now i 0 < 8 }
     requires enough { (m : ℕ) → m < 8 → length neighbours.now ≤ get_or sums.old m 0 }
-    ensures { (m : ℕ) → m < 8 → get_or sums.new m 0 + on_mask neighbours.now before.now m 0 (length neighbours.now) ≡ get_or sums.old m 0 }
+    ensures { (m : ℕ) → m < 8 → get_or sums.new m 0 + on_mask before.now m neighbours.now ≡ get_or sums.old m 0 }
 {
     for neighbour in neighbours {
         sums[before[*neighbour as usize] as usize] -= 1;
@@ -47,11 +47,10 @@ fn drop_stitches(sums: &mut [u32; 8], neighbours: &[u16], before: &[u8])
 // that is not inlined there makes a step a sixth slower.
 #[inline]
 pub fn added_row(lists: &Lists, table: &Table, before: &[u8]) -> [u32; 8]
-    requires few { length before.now < 512 }
-    requires place_lists { PlaceLists lists.now.starts lists.now.entries (length before.now) }
+    requires place { length before.now < length lists.now }
     requires low { (i : ℕ) → i < length before.now → get_or before.now i 0 < 8 }
     ensures small { (m : ℕ) → m < 8 → get_or result m 0 ≤ 131_715_584 }
-    ensures adds { (m : ℕ) → m < 8 → get_or result m 0 ≡ local_added table.now.weight lists.now.starts lists.now.entries before.now m }
+    ensures adds { (m : ℕ) → m < 8 → get_or result m 0 ≡ local_added table.now lists.now before.now m }
 {
     let k = before.len();
     let stitches = lists.stitches_of(k);

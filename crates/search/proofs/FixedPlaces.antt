@@ -6,8 +6,8 @@ use mathlib.Core.Path.{◌≡◌, sym, ap, ◌∙◌}
 use Prim.Native.Nat.{ℕ, suc, ◌+◌, ◌-◌, ◌≤◌, ◌<◌, min, max}
 use native.Mathlib.Omega.{arith}
 use lib.Dec.{eqb, ltb}
-use lib.ListN.{length, get_or, take}
-use lib.Seq.{get_or-take, length-take-le}
+use lib.ListN.{length, take}
+use lib.Seq.{length-take-le}
 use borrow.Author.Tests.{lt-ltb, le-ltb, eq-eqb, ne_eqb}
 use Rattle.rules.specs.Basics.{up_to, up_from, occurs}
 use Rattle.rules.specs.Settings.{unset}
@@ -18,7 +18,7 @@ use Rattle.rules.proofs.Tests.{lt_or_ge, clash}
 use Rattle.theory.proofs.Renaming.{different_snoc}
 use Rattle.search.specs.declared.incumbent.Walk.{Walk}
 use Rattle.search.specs.declared.branch.Problem.{Problem}
-use Rattle.search.specs.Branch.{fixed_in, tried_in, Used, renamed, every, Ready}
+use Rattle.search.specs.Branch.{size_in, fixed_in, tried_in, Used, renamed, every, Ready}
 
 -- ---- Masks in use
 
@@ -58,10 +58,7 @@ tried_free {K} {q = q} {u = u} (renamed e count below) h = let n : min (suc u) K
 tried_free {K} {u = u} (every e f) h = let n : min (suc u) K ≡ K = omega arith in rw (n, e)
 
 -- What is tried from the number x that is read at place p. A fixed mask is one of those that would be tried were the place not fixed.
-module _ {b : Problem} {w : Walk} {p c u left : ℕ} (ready : Ready b w p c u left) (place : p < b.size) {x : ℕ} (read : x ≡ get_or b.table.fixed p unset) where
-  own : x ≡ fixed_in b p
-  own = read ∙ sym (get_or-take b.size b.table.fixed p unset place)
-
+module _ {b : Problem} {w : Walk} {p c u left : ℕ} (ready : Ready b w p c u left) (place : p < size_in b) {x : ℕ} (own : x ≡ fixed_in b p) where
   long : length (take p w.partial) ≡ p
   long = length-take-le p w.partial (omega (arith, ready.at, ready.sound.few, ready.whole))
 
@@ -73,10 +70,10 @@ module _ {b : Problem} {w : Walk} {p c u left : ℕ} (ready : Ready b w p c u le
     own_low = omega (arith, own, ready.sound.fixed_low p place fix)
 
     all_used : u ≡ b.limits.masks
-    all_used = used_all ready.used (any_found (is_fixed (fixed_in b)) b.size place fix)
+    all_used = used_all ready.used (any_found (is_fixed (fixed_in b)) (size_in b) place fix)
 
   pub tried_at : (first last : ℕ) → ((x ≡ unset → ⊥) × (first ≡ x) × (last ≡ x + 1)) ⊎ ((x ≡ unset) × (first ≡ 0) × (last ≡ min b.limits.masks (u + 1)))
-      → (first ≤ last) × (last ≤ tried_in b u) × (up_from first (last - first) ≡ candidates_in b.limits.masks (fixed_in b) b.size (take p w.partial))
+      → (first ≤ last) × (last ≤ tried_in b u) × (up_from first (last - first) ≡ candidates_in b.limits.masks (fixed_in b) (size_in b) (take p w.partial))
   unfolding candidates_in up_from
   tried_at first last (inl h) =
       let one : last - first ≡ 1 = omega (arith, h.1, h.2) in

@@ -16,7 +16,7 @@ use Rattle.theory.proofs.Search.{at_end, at_stop, at_enter, at_skip}
 use Rattle.first_assignment.proofs.Stored.{take_stored, stored_low}
 use Rattle.search.specs.declared.incumbent.Walk.{Walk}
 use Rattle.search.specs.declared.branch.Problem.{Problem}
-use Rattle.search.specs.Branch.{ends_at, has_ended, left_in, due_in, found_in, adds_in, fixed_in, state_in, places_from, masks_from, Ready, RowOf, Kept, Placed, Masked}
+use Rattle.search.specs.Branch.{ends_at, has_ended, left_in, due_in, found_in, adds_in, size_in, fixed_in, state_in, places_from, masks_from, Ready, RowOf, Kept, Placed, Masked}
 use Rattle.search.proofs.FixedPlaces.{used-next}
 
 -- ---- Lists of masks
@@ -45,7 +45,7 @@ module _ {b : Problem} {w : Walk} {p c u left : ℕ} (ready : Ready b w p c u le
   goes_on l = by_test (has_ended w) (λ e. absurd (omega (arith, ready.ended e))) (λ e. e)
 
   -- a mask is stored at p, and costs what the row says
-  pub ready_next : (m r : ℕ) → p < b.size → r ≤ 131_715_584 → m ≤ u → m < b.limits.masks → 1 ≤ left
+  pub ready_next : (m r : ℕ) → p < size_in b → r ≤ 131_715_584 → m ≤ u → m < b.limits.masks → 1 ≤ left
       → Ready b (with_mask w p m) (p + 1) (c + r) (max u (m + 1)) (left - 1)
   ready_next m r h small l k more =
       let room : p < length w.partial = omega (arith, ready.whole, ready.sound.few) in
@@ -99,7 +99,7 @@ module _ {b : Problem} {w : Walk} {p c u left : ℕ} (ready : Ready b w p c u le
   one_step h =
       let n : suc (b.limits.budget - left_in w left) ≡ b.limits.budget - left_in w (left - 1)
       = omega (arith, ready.afford, left_on w left (goes_on ready h), left_on w (left - 1) (goes_on ready h)) in
-      λ i. state (n i) w.stopped w.cost (take b.size w.incumbent)
+      λ i. state (n i) w.stopped w.cost (take (size_in b) w.incumbent)
 
   up_more : m < last → up_from m (last - m) ≡ m ∷ after
   unfolding up_from
@@ -120,7 +120,7 @@ module _ {b : Problem} {w : Walk} {p c u left : ℕ} (ready : Ready b w p c u le
   -- the budget is used up
   masked_stop : has_ended w ≡ false → m < last → left ≡ 0 → Masked b w (record w { stopped = true }) p c left m last 0
   masked_stop on h e = record {
-    searched = ap (λ (l : ℕ). state (b.limits.budget - left_in w l) true w.cost (take b.size w.incumbent)) (sym e)
+    searched = ap (λ (l : ℕ). state (b.limits.budget - left_in w l) true w.cost (take (size_in b) w.incumbent)) (sym e)
         ∙ sym (tried_more h ∙ at_stop (adds_in b) (ends_at b.end) b.limits.budget (places_from b (suc p)) m after (take p w.partial) c s (sym ready.agrees ∙ on) (omega (arith, left_on w left on)));
     kept = record { before = refl; whole = ready.whole; fewer = omega (arith, left_on w left on, left_on w 0 on); ended = λ _. refl; agrees = ready.agrees };
   }
@@ -164,7 +164,7 @@ module _ {b : Problem} {w : Walk} {p c u left : ℕ} (ready : Ready b w p c u le
       kept = record { before = rest.kept.before; whole = rest.kept.whole; fewer = omega (arith, rest.kept.fewer, fewer_left); ended = rest.kept.ended; agrees = rest.kept.agrees };
     }
 
-    module _ {w₁ : Walk} {left₁ : ℕ} (place : p < b.size) (one : Placed b (with_mask w p m) w₁ (p + 1) (c + r) (left - 1) left₁) where
+    module _ {w₁ : Walk} {left₁ : ℕ} (place : p < size_in b) (one : Placed b (with_mask w p m) w₁ (p + 1) (c + r) (left - 1) left₁) where
       -- what the search from the next place leaves
       pub kept_below : Kept b w w₁ p left left₁
       kept_below = record {
@@ -213,14 +213,14 @@ masks_next l kept goes = record { ready = ready_same l.ready kept; adds = row_sa
 
 module _ {b : Problem} {w : Walk} {p c u left : ℕ} (ready : Ready b w p c u left) where
   abbrev cands : List ℕ → List ℕ
-  cands = candidates_in b.limits.masks (fixed_in b) b.size
+  cands = candidates_in b.limits.masks (fixed_in b) (size_in b)
 
   -- all that are tried there
-  pub placed_masks : {w₁ : Walk} {left₁ : ℕ} (first last : ℕ) → p < b.size → up_from first (last - first) ≡ cands (take p w.partial)
+  pub placed_masks : {w₁ : Walk} {left₁ : ℕ} (first last : ℕ) → p < size_in b → up_from first (last - first) ≡ cands (take p w.partial)
       → Masked b w w₁ p c left first last left₁ → Placed b w w₁ p c left left₁
   unfolding search_places
   placed_masks first last h e masks =
-      let places : b.size - p ≡ suc (b.size - suc p) = omega arith in
+      let places : size_in b - p ≡ suc (size_in b - suc p) = omega arith in
       record {
         searched = masks.searched
             ∙ ap (λ (ms : List ℕ). masks_from b p ms (take p w.partial) c (state_in b w left)) e
@@ -229,17 +229,17 @@ module _ {b : Problem} {w : Walk} {p c u left : ℕ} (ready : Ready b w p c u le
       }
 
   -- past the last place
-  pub placed_last : has_ended w ≡ false → b.size ≤ p → Placed b w (found_in b.end w c left) p c left (cond (ends_at b.end c) 0 left)
+  pub placed_last : has_ended w ≡ false → size_in b ≤ p → Placed b w (found_in b.end w c left) p c left (cond (ends_at b.end c) 0 left)
   unfolding search_places
   placed_last on past =
-      let none_left : b.size - p ≡ 0 = omega arith in
-      let end : b.size ≡ p = omega (arith, ready.at) in
+      let none_left : size_in b - p ≡ 0 = omega arith in
+      let end : size_in b ≡ p = omega (arith, ready.at) in
       let same = left_on w left on in
       let Last : Bool → Type 0 = λ t. Placed b w (record w { incumbent = w.partial; cost = c; ended = cond t (Some left) w.ended }) p c left (cond t 0 left) in
-      let rules : state (b.limits.budget - left_in w left) w.stopped c (take b.size w.partial) ≡ places_from b p (take p w.partial) c (state_in b w left) = rw (none_left, end) in
+      let rules : state (b.limits.budget - left_in w left) w.stopped c (take (size_in b) w.partial) ≡ places_from b p (take p w.partial) c (state_in b w left) = rw (none_left, end) in
       by_test (ends_at b.end c)
       (λ over. subst⁻¹ Last over (record {
-        searched = ap (λ (l : ℕ). state (b.limits.budget - l) w.stopped c (take b.size w.partial)) (sym same) ∙ rules;
+        searched = ap (λ (l : ℕ). state (b.limits.budget - l) w.stopped c (take (size_in b) w.partial)) (sym same) ∙ rules;
         kept = record { before = refl; whole = ready.whole; fewer = omega (arith, same); ended = λ _. refl; agrees = sym over };
       }))
       (λ goes. subst⁻¹ Last goes (record {

@@ -3,8 +3,9 @@ use Rattle.std.specs.Prelude.{Bool, true, false, cond, List, ◌≡◌, ℕ, suc
 use Rattle.rules.specs.Basics.{up_to, up_from, any_of, occurs}
 use Rattle.rules.specs.Peeling.{is_fixed}
 use Rattle.rules.specs.Search.{different, candidates_in, State, state, try_masks, search_places}
-use Rattle.places.specs.Local.{local_added, PlaceLists}
-use Rattle.first_assignment.specs.First.{fixed_to, FixedLow}
+use Rattle.adjacency.specs.UnitGraph.{fixed_at}
+use Rattle.places.specs.Local.{local_added}
+use Rattle.first_assignment.specs.First.{FixedLow}
 use Rattle.search.specs.declared.incumbent.Walk.{Walk}
 use Rattle.search.specs.declared.branch.Problem.{Problem}
 
@@ -31,15 +32,18 @@ found_in end w c left = record w { incumbent = w.partial; cost = c; ended = cond
 
 -- what mask m adds at the next place
 abbrev pub adds_in : Problem → List ℕ → ℕ → ℕ
-adds_in b = local_added b.table.weight b.lists.now.starts b.lists.now.entries
+adds_in b = local_added b.table b.lists.now
 
--- the fixed masks of the places
+-- how many places there are, and their fixed masks
+abbrev pub size_in : Problem → ℕ
+size_in b = length b.fixed.now
+
 abbrev pub fixed_in : Problem → ℕ → ℕ
-fixed_in b = fixed_to b.table.fixed b.size
+fixed_in b = fixed_at b.fixed.now
 
 -- whether a place is fixed
 abbrev pub any_fixed : Problem → Bool
-any_fixed b = any_of (is_fixed (fixed_in b)) (up_to b.size)
+any_fixed b = any_of (is_fixed (fixed_in b)) (up_to (size_in b))
 
 -- how many masks are tried at a place that is not fixed, where u are in use
 abbrev pub tried_in : Problem → ℕ → ℕ
@@ -47,12 +51,12 @@ tried_in b u = min (suc u) b.limits.masks
 
 -- where the search stands, with so many steps of its budget handed on
 abbrev pub state_in : Problem → Walk → ℕ → State
-state_in b w left = state (b.limits.budget - left_in w left) w.stopped w.cost (take b.size w.incumbent)
+state_in b w left = state (b.limits.budget - left_in w left) w.stopped w.cost (take (size_in b) w.incumbent)
 
 -- the search of the rules on the local problem, from a place on
 abbrev pub places_from : Problem → ℕ → List ℕ → ℕ → State → State
 places_from b k =
-    search_places (adds_in b) (candidates_in b.limits.masks (fixed_in b) b.size) (ends_at b.end) b.limits.budget (b.size - k)
+    search_places (adds_in b) (candidates_in b.limits.masks (fixed_in b) (size_in b)) (ends_at b.end) b.limits.budget (size_in b - k)
 
 -- some masks tried at a place, where the search goes on from the next one
 abbrev pub masks_from : Problem → ℕ → List ℕ → List ℕ → ℕ → State → State
@@ -65,17 +69,17 @@ pub data Used (K : ℕ) (someFixed : Bool) (q : List ℕ) (u : ℕ) : Type 0 whe
 
 -- A problem that can be searched.
 pub record Sound (b : Problem) : Type 0 where
-  pub few : b.size ≤ 512
+  pub few : size_in b ≤ 512
   pub some : 1 ≤ b.limits.masks
   pub masks : b.limits.masks ≤ 8
-  pub places : (k : ℕ) → k < b.size → PlaceLists b.lists.now.starts b.lists.now.entries k
-  pub fixed_low : FixedLow (fixed_in b) b.size b.limits.masks
+  pub places : size_in b ≤ length b.lists.now
+  pub fixed_low : FixedLow (fixed_in b) (size_in b) b.limits.masks
 
 -- The masks before place p: they cost c, at most so much for each place, and u are in use. A search that has ended hands on no steps.
 pub record Ready (b : Problem) (w : Walk) (p c u left : ℕ) : Type 0 where
   pub sound : Sound b
   pub whole : length w.partial ≡ 512
-  pub at : p ≤ b.size
+  pub at : p ≤ size_in b
   pub cheap : c ≤ 131_715_584 * p
   pub low : (i : ℕ) → i < p → get_or w.partial i 0 < 8
   pub within : u ≤ b.limits.masks

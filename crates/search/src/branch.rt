@@ -1,21 +1,21 @@
 // The search over the places of a component (document 01: the walk), by two functions that call each other, one for a place and one for its
 // masks. What a search does not change stands in a problem and what it changes in a walk, so that a step passes and returns few numbers.
-ghost use Rattle.std.specs.Prelude.{false, ◌≡◌, ◌≤◌, ◌<◌};
+ghost use Rattle.std.specs.Prelude.{false, ◌≡◌, ◌≤◌, ◌<◌, length};
 ghost use Rattle.search.specs.Branch.{Ready, RowOf, Placed, Masked, tried_in, has_ended};
 
 use crate::incumbent::Walk;
 use crate::limits::Limits;
 use places::Lists;
 use rows::{Table, added_row};
-use rules::Piece;
+use rules::stated_mask;
 
-// The earlier neighbours of the places, the table of the weight and the fixed masks, how many places there are, what the run sets for each search,
-// and the cost at which this one ends, if there is one (RULES 19).
+// The earlier neighbours of the places, the table of the weight, the fixed masks of the places, what the run sets for each search, and the cost at
+// which this one ends, if there is one (RULES 19).
 #[derive(Drop)]
 pub struct Problem<'a> {
     pub lists: &'a Lists,
     pub table: Table,
-    pub size: usize,
+    pub fixed: &'a [u8],
     pub limits: Limits,
     pub end: Option<u64>,
 }
@@ -23,25 +23,22 @@ pub struct Problem<'a> {
 impl Problem<'_> {
     // Searches the places from p on, where those before it have the masks of the walk, which cost `cost`, and `left` steps are left. The search has
     // not ended. The masks below `used` and the next one are tried at a place that is not fixed: `used` is how many different masks there are before
-    // p, or, where a place is fixed and masks cannot be renamed, the number of masks. Answers how many steps are left then, or 0 if it has ended.
+    // p, or, where a place is fixed and masks cannot be renamed, the number of masks. No test tells the two apart, since the first is that number too
+    // once all masks are in use. Answers how many steps are left then, or 0 if it has ended.
     #[cycle(search_masks_search_place)]
     pub fn search_place(&self, walk: &mut Walk, p: usize, cost: u64, used: usize, left: u64) -> u64
         requires ready { Ready self.now walk.old p cost used left }
         requires goes_on { has_ended walk.old ≡ false }
         ensures { Placed self.now walk.old walk.new p cost left result }
     {
-        if self.size <= p {
+        let Some(own) = self.fixed.get(p) else {
             return walk.hold(self.end, cost, left);
-        }
+        };
         let row = added_row(self.lists, &self.table, &walk.partial[..p]);
         let masks = self.limits.masks as usize;
-        // A fixed mask is a number of the records, of which one stands for none.
-        let own = self.table.fixed_mask(p);
-        let (first, last) = if own == Piece::UNSET {
-            (0, masks.min(used + 1))
-        } else {
-            let mask = usize::from(own);
-            (mask, mask + 1)
+        let (first, last) = match stated_mask(*own) {
+            Some(mask) => (usize::from(mask), usize::from(mask) + 1),
+            None => (0, masks.min(used + 1)),
         };
         self.search_masks(walk, p, cost, used, left, &row, first, last)
     }
@@ -62,7 +59,7 @@ impl Problem<'_> {
     ) -> u64
         requires ready { Ready self.now walk.old p cost used left }
         requires row_of { RowOf self.now walk.old p row.now }
-        requires place { p < self.now.size }
+        requires place { p < length self.now.fixed.now }
         requires order { first ≤ last }
         requires tried { last ≤ tried_in self.now used }
         ensures { Masked self.now walk.old walk.new p cost left first last result }

@@ -21,13 +21,19 @@ pub fn search_component(
 {
     let problem = Problem {
         lists,
-        table: Table::new(limits.weight, fixed),
-        size: fixed.len(),
+        table: Table::new(limits.weight),
+        fixed,
         limits,
         end,
     };
     let mut partial = [0u8; 512];
-    let cost = first_assignment(lists, &problem.table, fixed, limits.masks, &mut partial);
+    let cost = first_assignment(
+        lists,
+        &problem.table,
+        fixed,
+        limits.masks,
+        &mut partial[..fixed.len()],
+    );
     if end == Some(cost) {
         return Best {
             masks: partial,

@@ -1,9 +1,9 @@
 // What a search is given, and what it gives.
-ghost use Rattle.std.specs.Prelude.{◌≡◌};
+ghost use Rattle.std.specs.Prelude.{false, ◌≡◌};
 
 use rules::Settings;
 
-// What a run sets for the search of each of its components.
+// What a run sets for the search of each of its components, in the 64 bits that the search computes in.
 #[derive(Clone, Copy)]
 pub struct Limits {
     pub masks: u64,
@@ -30,7 +30,20 @@ pub struct Progress {
     pub stopped: bool,
 }
 
-// The best masks of the places that a search found, and what they cost. What stands past the last place says nothing.
+impl Progress {
+    // All steps of the budget are left.
+    pub fn new(budget: u64) -> Progress
+        ensures { result ≡ record { left = budget; stopped = false } }
+    {
+        Progress {
+            left: budget,
+            stopped: false,
+        }
+    }
+}
+
+// The best masks of the places that a search found, and what they cost. As no heap is used, the array has room for the most places: what stands past
+// the last place says nothing.
 #[derive(Clone, Copy)]
 pub struct Best {
     pub masks: [u8; 512],

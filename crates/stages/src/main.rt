@@ -92,10 +92,7 @@ fn first_stages(last: Stage, layer: &ValidLayer, masks: &mut [u8]) -> u64
         return removals.len() as u64;
     }
     let limits = Limits::from(layer.settings);
-    let mut progress = Progress {
-        left: limits.budget,
-        stopped: false,
-    };
+    let mut progress = Progress::new(limits.budget);
     let graph = UnitGraph {
         edges: &edges,
         units,

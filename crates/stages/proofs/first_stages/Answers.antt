@@ -1,12 +1,13 @@
 -- `first_stages`: each stage may be called where the one before it ended, as in the run itself. Assumes nothing.
-use Rattle.std.proofs.Common.{refl, ◌∙◌, arith}
+use Rattle.std.proofs.Common.{◌∙◌, arith}
 use Rattle.rules.specs.Settings.{fixed_masks}
 use Rattle.rules.proofs.Validity.{layer_facts}
 use Rattle.adjacency.specs.UnitGraph.{unit_at}
 use Rattle.fixed_masks.proofs.FixedLaws.{masks_length}
 use Rattle.units.specs.Noted.{NotedMasks}
 use Rattle.units.proofs.SplitLaws.{unit_inside}
-use Rattle.decomposer.proofs.RunLaws.{layer_sound, unit_places, units_fixed}
+use Rattle.decomposer.proofs.LayerWords.{one_kind_each}
+use Rattle.decomposer.proofs.RunLaws.{layer_small, unit_places, units_fixed}
 use Rattle.stages.proofs.first_stages.Goals as goal
 use Rattle.stages.proofs.first_stages.Goals.{After-note_masks}
 
@@ -32,9 +33,16 @@ merge_edges-requires c =
       by_index = λ i l. let inside = rw numbered.whole at l in omega (arith, sizes, unit_inside _ _ numbered i inside);
     }
 
-pub search_core-requires-clause-sound : goal.search_core-requires-clause-sound
-search_core-requires-clause-sound c =
-    layer_sound _ _ c.args.layer.now.valid c.layer_units-core.ensures.adjacency c.layer_units-core.ensures.units_of _ refl refl refl
+pub invariant_of-graph : goal.invariant_of-graph
+invariant_of-graph c =
+    let valid = c.args.layer.now.valid in
+    let adjacency = c.layer_units-core.ensures.adjacency in
+    let numbered = c.layer_units-core.ensures.units_of in
+    record {
+      exclusive = one_kind_each adjacency;
+      few = omega (arith, numbered.whole, (layer_facts _ _ valid).few);
+      small = layer_small _ _ valid adjacency numbered;
+    }
 
 -- what is left of the units is among them
 pub search_core-requires-clause-given : goal.search_core-requires-clause-given
@@ -46,7 +54,7 @@ search_core-requires-clause-given c =
     let places = unit_places _ _ valid adjacency numbered c.args.masks.now c.requires in
     let fixed = units_fixed _ _ valid adjacency numbered (noted (goal.at.search_core-requires-clause-given c).After-note_masks) in
     let within = c.peel-removals.ensures.inside in
-    rw c.from-limits.ensures
+    rw (c.new-progress.ensures, c.from-limits.ensures)
     (record {
       some = omega (arith, facts.masks.low);
       masks = facts.masks.high;

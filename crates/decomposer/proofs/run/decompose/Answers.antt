@@ -7,7 +7,8 @@ use Rattle.adjacency.specs.UnitGraph.{unit_at}
 use Rattle.fixed_masks.proofs.FixedLaws.{masks_length}
 use Rattle.units.specs.Noted.{NotedMasks}
 use Rattle.units.proofs.SplitLaws.{unit_inside}
-use Rattle.decomposer.proofs.RunLaws.{layer_sound, unit_places, units_fixed, found_within, found_grouping, after_size, run_same, run_against}
+use Rattle.decomposer.proofs.LayerWords.{one_kind_each}
+use Rattle.decomposer.proofs.RunLaws.{layer_small, unit_places, units_fixed, found_within, found_grouping, after_size, run_same, run_against}
 use Rattle.decomposer.proofs.run.decompose.Goals as goal
 use Rattle.decomposer.proofs.run.decompose.Goals.{After-note_masks}
 
@@ -24,6 +25,17 @@ note_masks-requires c =
 noted : (c : After-note_masks) → NotedMasks (unit_at c.layer_units-all.new.units) (fixed_masks c.args.layer.now.pieces.now) c.note_masks.new.noted c.note_masks.result
 noted c = rw (c.as_slice.ensures.value ∙ c.fixed_masks_of-given.ensures) at c.note_masks.ensures
 
+pub invariant_of-graph : goal.invariant_of-graph
+invariant_of-graph c =
+    let valid = c.args.layer.now.valid in
+    let adjacency = c.layer_units-all.ensures.adjacency in
+    let numbered = c.layer_units-all.ensures.units_of in
+    record {
+      exclusive = one_kind_each adjacency;
+      few = omega (arith, numbered.whole, (layer_facts _ _ valid).few);
+      small = layer_small _ _ valid adjacency numbered;
+    }
+
 pub decompose_units-searched-requires : goal.decompose_units-searched-requires
 decompose_units-searched-requires c =
     let valid = c.args.layer.now.valid in
@@ -31,7 +43,6 @@ decompose_units-searched-requires c =
     let numbered = c.layer_units-all.ensures.units_of in
     record {
       settings_value = (layer_facts _ _ valid).in_range;
-      sound = layer_sound _ _ valid adjacency numbered _ refl refl refl;
       has_places = unit_places _ _ valid adjacency numbered c.args.masks.now c.requires;
       has_fixed = units_fixed _ _ valid adjacency numbered (noted (goal.at.decompose_units-searched-requires c).After-note_masks);
     }

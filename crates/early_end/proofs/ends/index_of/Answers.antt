@@ -1,41 +1,29 @@
 use native.Mathlib.Omega.{arith}
-use mathlib.Core.List.{List, [], ◌∷◌}
-use mathlib.Core.Path.{◌≡◌, refl, sym, ◌∙◌}
-use Prim.Native.Nat.{ℕ, ◌+◌, ◌*◌}
+use mathlib.Core.List.{List}
+use mathlib.Core.Path.{◌≡◌, sym, ap, ◌∙◌}
+use Prim.Native.Nat.{ℕ, ◌+◌, ◌*◌, ◌<◌}
 use Rattle.std.proofs.Common.{rules}
-use lib.ListN.{length}
+use borrow.Author.Tests.{tests}
 use Rattle.rules.specs.Library.{value_of}
-use Rattle.early_end.proofs.Index.{below, below_all, below_next, below_more}
+use Rattle.early_end.proofs.Index.{below, below_all, below_none, below_next, below_more, digits_left}
 use Rattle.early_end.proofs.ends.index_of.Goals as goal
-use Rattle.early_end.proofs.ends.index_of.Goals.{In-Some}
+use Rattle.early_end.proofs.ends.index_of.Goals.{After-rev}
 
--- the digit that passes goes from those that are left to the number above them
-passed : (c : In-Some) → below c.next.new.self.iter.rest.now (c.in-Some.count.now + 2 * c.loop-count.index) ≡ value_of c.args.counts.now
-passed c =
-    sym (below_next c.next.new.self.iter.rest.now c.in-Some.count.now c.loop-count.index) ∙ (rw c.in-Some.ensures.steps at c.loop-count.invariant)
+-- all digits are left at first
+begun : (c : After-rev) → below c.rev.result.iter.rest.now 0 ≡ value_of c.args.counts.now
+begun c = let rest : c.rev.result.iter.rest.now ≡ c.args.counts.now = search rules in rw rest (below_all c.args.counts.now)
 
--- no digit is left
-below_none : (bits : List ℕ) (n : ℕ) → length bits ≡ 0 → below bits n ≡ n
-below_none [] n e = refl
-below_none (b ∷ bits) n e = absurd (omega arith)
-
-pub loop-count-init : goal.loop-count-init
-loop-count-init c =
-    let rest : c.into_iter-count-iterator.result.iter.rest.now ≡ c.args.counts.now = search rules in
-    rw rest (below_all c.args.counts.now)
-
-pub overflow_mul-index : goal.overflow_mul-index
-overflow_mul-index c =
-    let turn = (goal.at.overflow_mul-index c).In-Some in
-    omega (arith, passed turn, below_more c.next.new.self.iter.rest.now (c.in-Some.count.now + 2 * c.loop-count.index), c.requires)
-
-pub overflow_add-index : goal.overflow_add-index
-overflow_add-index c =
-    let turn = (goal.at.overflow_add-index c).In-Some in
-    omega (arith, passed turn, below_more c.next.new.self.iter.rest.now (c.in-Some.count.now + 2 * c.loop-count.index), c.requires)
-
-pub loop-count-preserved : goal.loop-count-preserved
-loop-count-preserved c = passed (goal.at.loop-count-preserved c).In-Some
+pub fold-requires-clause-callable : goal.fold-requires-clause-callable
+fold-requires-clause-callable c = record {
+  at = λ xs t q x u y f e.
+      let left = digits_left (λ f n x r f' k. search (rules, tests)) (value_of c.args.counts.now) xs _ t _ q (begun (goal.at.fold-requires-clause-callable c).After-rev) y f in
+      let next : below u.iter.rest.now (x.now + 2 * q.1) ≡ value_of c.args.counts.now = sym (below_next u.iter.rest.now x.now q.1) ∙ ap (λ (l : List ℕ). below l q.1) (sym e) ∙ left in
+      let small : x.now + 2 * q.1 < 1024 = omega (arith, below_more u.iter.rest.now (x.now + 2 * q.1), c.requires) in
+      search rules;
+}
 
 pub returns : goal.returns
-returns c = sym (below_none c.loop-count.count-iterator.iter.rest.now c.loop-count.index c.in-None.ensures.steps.0) ∙ c.loop-count.invariant
+returns c =
+    let ran = c.fold.ensures.ran in
+    let left = digits_left (λ f n x r f' k. search (rules, tests)) (value_of c.args.counts.now) ran.0 _ ran.2.1.0 _ _ (begun (goal.at.returns c).After-rev) ran.2.1.1 ran.3 in
+    sym (below_none ran.2.1.0.iter.rest.now c.fold.result ran.2.1.2.0) ∙ left

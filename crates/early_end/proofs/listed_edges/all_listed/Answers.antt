@@ -1,22 +1,17 @@
 use native.Mathlib.Omega.{arith}
-use mathlib.Core.Bool.{not}
-use mathlib.Core.Path.{sym, ap}
-use borrow.Author.Tests.{not-false}
-use Rattle.rules.specs.Basics.{up_to}
+use mathlib.Core.Bool.{true, false}
+use mathlib.Core.Path.{◌≡◌, refl}
+use Prim.Native.Nat.{ℕ}
+use Rattle.std.proofs.Common.{rules}
+use Rattle.std.proofs.lemmas.Iterator.{cases_from_all, YieldsList-from_range}
+use borrow.Author.Tests.{tests}
 use Rattle.rules.specs.Library.{unlisted_at}
-use Rattle.rules.proofs.Lists.{any_found, out_any, in_up_to}
-use Rattle.rules.proofs.Tests.{failed}
 use Rattle.places.specs.Local.{list_graph}
+use Rattle.early_end.proofs.Ranges.{none_passes}
 use Rattle.early_end.proofs.listed_edges.all_listed.Goals as goal
-
-pub returns-then-not-place_listed : goal.returns-then-not-place_listed
-returns-then-not-place_listed c =
-    let has = unlisted_at (list_graph c.args.lists.now.starts c.args.lists.now.entries) in
-    let v = c.loop-v.v in
-    let found = not-false (has v) (failed c.place_listed.result (not (has v)) c.place_listed.ensures (ap not c.if-not-place_listed.true)) in
-    sym (ap not (any_found has c.args.size (omega arith) found))
 
 pub returns : goal.returns
 returns c =
-    let has = unlisted_at (list_graph c.args.lists.now.starts c.args.lists.now.entries) in
-    sym (ap not (out_any has (up_to c.args.size) (λ v m. c.loop-v.invariant v (omega (arith, (in_up_to c.args.size v).0 m)))))
+    let has = unlisted_at (list_graph c.args.lists.now) in
+    none_passes has (λ v. has v ≡ false) (λ v. has v ≡ true) (λ v e. e) (λ v e. e) c.args.size c.all.result
+    (cases_from_all _ _ _ (λ (v : ℕ). has v ≡ false) (λ (v : ℕ). has v ≡ true) c.all.ensures.ran (YieldsList-from_range 0 c.args.size c.args.size refl (omega arith)) (λ x q k. search (rules, tests)) (λ x q k. search (rules, tests)))

@@ -1,10 +1,9 @@
-use mathlib.Core.Path.{◌∙◌}
-use Rattle.places.specs.Local.{conflicts_at, stitches_at}
-use Rattle.early_end.proofs.Times.{times_part}
+use mathlib.Core.List.{List}
+use mathlib.Core.Path.{ap, ◌∙◌}
+use Prim.Native.Nat.{ℕ}
+use lib.Dec.{eqb}
+use Rattle.rules.specs.Basics.{count_of}
 use Rattle.early_end.proofs.listed_edges.conflicts_at.Goals as goal
 
 pub returns : goal.returns
-returns c =
-    let starts = c.args.lists.now.starts in
-    c.times_in.ensures
-    ∙ times_part c.args.lists.now.entries c.conflicts_of.result.now c.args.u (conflicts_at starts c.args.v) (stitches_at starts c.args.v) c.conflicts_of.ensures.part c.conflicts_of.ensures.len
+returns c = c.times_in.ensures ∙ ap (λ (xs : List ℕ). count_of (eqb c.args.u) xs) c.conflicts_of.ensures.value

@@ -6,8 +6,8 @@ use Rattle.std.proofs.Common.{rules}
 use lib.Dec.{eqb}
 use lib.ListN.{length, get_or}
 use Rattle.rules.specs.Settings.{unset}
-use Rattle.first_assignment.specs.First.{fixed_to}
-use Rattle.first_assignment.proofs.Stored.{fixed_read}
+use Rattle.rules.proofs.Lists.{default_same}
+use Rattle.adjacency.specs.UnitGraph.{fixed_at}
 use Rattle.first_assignment.proofs.Firsts.{cheapest_take, taken, taken_low, filled_none, filled_next, filled_all}
 use Rattle.first_assignment.proofs.first.first_assignment.Goals as goal
 use Rattle.first_assignment.proofs.first.first_assignment.Goals.{After-first_mask-m}
@@ -18,8 +18,8 @@ module _ (picked : After-first_mask-m) where
   byte = get_or picked.args.fixed.now picked.loop-k.k 0
 
   -- the byte that was read
-  read : byte ≡ fixed_to picked.args.fixed.now (length picked.args.fixed.now) picked.loop-k.k
-  read = fixed_read picked.args.fixed.now (length picked.args.fixed.now) picked.loop-k.k (omega arith) (omega arith)
+  read : byte ≡ fixed_at picked.args.fixed.now picked.loop-k.k
+  read = default_same picked.args.fixed.now picked.loop-k.k 0 unset (omega arith)
 
   -- the mask by the whole row
   mask : picked.first_mask-m.result ≡ taken byte picked.added_row-row.result picked.args.masks
@@ -35,7 +35,7 @@ module _ (picked : After-first_mask-m) where
       omega (arith, mask, below, picked.requires.size_bound.2)
 
 pub loop-k-init : goal.loop-k-init
-loop-k-init c = filled_none c.args.masks c.args.table.now.weight c.args.lists.now.starts c.args.lists.now.entries (fixed_to c.args.fixed.now (length c.args.fixed.now)) (length c.args.fixed.now) c.args.partial.now c.told-partial
+loop-k-init c = filled_none c.args.masks c.args.table.now c.args.lists.now (fixed_at c.args.fixed.now) (length c.args.fixed.now) c.args.partial.now c.requires.room
 
 pub overflow_cast-partial : goal.overflow_cast-partial
 overflow_cast-partial c = omega (arith, low (goal.at.overflow_cast-partial c).After-first_mask-m)
@@ -51,10 +51,10 @@ loop-k-preserved c =
     let a = c.args in
     let row = c.added_row-row.result in
     let picked = (goal.at.loop-k-preserved c).After-first_mask-m in
-    let next = filled_next a.masks a.table.now.weight a.lists.now.starts a.lists.now.entries (fixed_to a.fixed.now (length a.fixed.now)) (length a.fixed.now) (byte picked) row
+    let next = filled_next a.masks a.table.now a.lists.now (fixed_at a.fixed.now) (length a.fixed.now) (byte picked) row
     c.requires.size_bound.0 c.requires.size_bound.1 c.requires.size_bound.2 (omega arith) c.requires.fixed_low (read picked) c.added_row-row.ensures.small c.added_row-row.ensures.adds (mask picked) c.loop-k.invariant in
     rw c.from-cost.ensures next
 
 pub returns : goal.returns
 returns c =
-    filled_all c.args.masks c.args.table.now.weight c.args.lists.now.starts c.args.lists.now.entries (fixed_to c.args.fixed.now (length c.args.fixed.now)) (length c.args.fixed.now) (omega arith) c.loop-k.invariant
+    filled_all c.args.masks c.args.table.now c.args.lists.now (fixed_at c.args.fixed.now) (length c.args.fixed.now) (omega arith) c.loop-k.invariant

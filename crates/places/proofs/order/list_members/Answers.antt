@@ -1,43 +1,30 @@
 use native.Mathlib.Omega.{arith}
-use mathlib.Core.List.{List, [], ◌∷◌, ◌++◌, append-nil, append_assoc}
-use mathlib.Core.Path.{◌≡◌, sym, ap, ◌∙◌}
+use mathlib.Core.List.{List, [], ◌∷◌}
+use mathlib.Core.Path.{◌≡◌, refl, ap}
 use Prim.Native.Nat.{ℕ}
-use lib.ListN.{length, get_or, length-append}
+use lib.ListN.{length, get_or}
 use Rattle.rules.proofs.Lists.{place_in}
 use Rattle.adjacency.specs.Members.{members_of}
 use Rattle.adjacency.proofs.MemberLaws.{in_members, members_few}
-use Rattle.places.proofs.Members.{taken_members, none_left}
+use Rattle.places.proofs.Appending.{append_room, append_next, append_all}
 use Rattle.places.proofs.order.list_members.Goals as goal
 use Rattle.places.proofs.order.list_members.Goals.{In-None}
 
 -- none is left
 listed : (c : In-None) → c.loop-v.order.items ≡ members_of c.args.members.now
-listed c =
-    sym (append-nil c.loop-v.order.items)
-    ∙ ap (λ (xs : List ℕ). c.loop-v.order.items ++ xs) (sym (none_left c.loop-v.v-iterator c.in-None.ensures.steps.0))
-    ∙ c.loop-v.invariant
+listed c = append_all (λ (xs : List ℕ). xs) c.loop-v.order.items c.loop-v.v-iterator c.loop-v.invariant c.in-None.ensures.steps.0 refl
 
 pub loop-v-init : goal.loop-v-init
 loop-v-init c = rw (c.into_iter-v-iterator.ensures.into_iter_gives, c.members-v-items.ensures, c.new-order.ensures)
 
 pub push-requires : goal.push-requires
-push-requires c = (
-  omega arith,
-  omega (
-    arith,
-    ap length c.loop-v.invariant,
-    length-append c.loop-v.order.items (members_of c.loop-v.v-iterator),
-    ap length (taken_members c.in-Some.ensures.steps),
-    members_few c.args.members.now,
-  ),
-)
+push-requires c =
+    let room = append_room (λ (xs : List ℕ). xs) c.loop-v.order.items c.loop-v.v-iterator c.loop-v.invariant c.in-Some.ensures.steps (c.in-Some.v ∷ []) refl in
+    (omega arith, omega (arith, room, members_few c.args.members.now))
 
 pub loop-v-preserved : goal.loop-v-preserved
 loop-v-preserved c =
-    ap (λ (xs : List ℕ). xs ++ members_of c.next.new.self) c.push.ensures.items
-    ∙ append_assoc c.loop-v.order.items (c.in-Some.v ∷ []) (members_of c.next.new.self)
-    ∙ ap (λ (xs : List ℕ). c.loop-v.order.items ++ xs) (sym (taken_members c.in-Some.ensures.steps))
-    ∙ c.loop-v.invariant
+    rw c.push.ensures.items (append_next (λ (xs : List ℕ). xs) c.loop-v.order.items c.loop-v.v-iterator c.loop-v.invariant c.in-Some.ensures.steps (c.in-Some.v ∷ []) refl)
 
 pub returns-clause-order : goal.returns-clause-order
 returns-clause-order c = listed (goal.at.returns-clause-order c).In-None

@@ -1,7 +1,7 @@
 use native.Mathlib.Omega.{arith}
 use Prim.Native.Nat.{ℕ, ◌≤◌, ◌<◌}
 use lib.ListN.{get_or}
-use Rattle.rows.proofs.Rows.{on_none, on_small, row_less}
+use Rattle.rows.proofs.Rows.{on_none, on_first, on_all, row_less}
 use Rattle.rows.proofs.row.drop_stitches.Goals as goal
 use Rattle.rows.proofs.row.drop_stitches.Goals.{In-loop-neighbour}
 
@@ -14,10 +14,10 @@ module _ (turn : In-loop-neighbour) where
   low = turn.requires.low _ (turn.requires.earlier turn.loop-neighbour.neighbour-index (omega arith))
 
   some : 1 ≤ get_or turn.loop-neighbour.sums mask 0
-  some = omega (arith, turn.loop-neighbour.invariant mask low, turn.requires.enough mask low, on_small turn.args.neighbours.now turn.args.before.now mask 0 turn.loop-neighbour.neighbour-index)
+  some = omega (arith, turn.loop-neighbour.invariant mask low, turn.requires.enough mask low, on_first turn.args.neighbours.now turn.args.before.now mask turn.loop-neighbour.neighbour-index (omega arith))
 
 pub loop-neighbour-init : goal.loop-neighbour-init
-loop-neighbour-init c m l = omega (arith, on_none c.args.neighbours.now c.args.before.now m 0)
+loop-neighbour-init c m l = omega (arith, on_none c.args.neighbours.now c.args.before.now m)
 
 pub overflow_sub-sums : goal.overflow_sub-sums
 overflow_sub-sums c = some (goal.at.overflow_sub-sums c).In-loop-neighbour
@@ -25,4 +25,7 @@ overflow_sub-sums c = some (goal.at.overflow_sub-sums c).In-loop-neighbour
 pub loop-neighbour-preserved : goal.loop-neighbour-preserved
 loop-neighbour-preserved c =
     let turn = (goal.at.loop-neighbour-preserved c).In-loop-neighbour in
-    row_less c.args.neighbours.now c.args.before.now c.loop-neighbour.sums c.args.sums.now 0 c.loop-neighbour.neighbour-index (omega arith) (omega arith) (low turn) c.loop-neighbour.invariant (some turn)
+    row_less c.args.neighbours.now c.args.before.now c.loop-neighbour.sums c.args.sums.now c.loop-neighbour.neighbour-index (omega arith) (omega arith) (low turn) c.loop-neighbour.invariant (some turn)
+
+pub returns : goal.returns
+returns c m l = omega (arith, c.loop-neighbour.invariant m l, on_all c.args.neighbours.now c.args.before.now m c.loop-neighbour.neighbour-index (omega arith))

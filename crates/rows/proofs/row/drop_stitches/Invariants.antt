@@ -1,9 +1,9 @@
 -- `drop_stitches`: the neighbours passed are taken off, each from its mask. Assumes nothing.
 use mathlib.Core.Path.{◌≡◌}
 use Prim.Native.Nat.{ℕ, ◌+◌, ◌<◌}
-use lib.ListN.{get_or}
+use lib.ListN.{get_or, take}
 use Rattle.places.specs.Local.{on_mask}
 use Rattle.rows.proofs.row.drop_stitches.Given as goal
 
 abbrev pub invariant-loop-neighbour : goal.invariant-loop-neighbour
-invariant-loop-neighbour l = (m : ℕ) → m < 8 → get_or l.sums m 0 + on_mask l.neighbours l.before m 0 l.neighbour-index ≡ get_or l.initial.sums m 0
+invariant-loop-neighbour l = (m : ℕ) → m < 8 → get_or l.sums m 0 + on_mask l.before m (take l.neighbour-index l.neighbours) ≡ get_or l.initial.sums m 0

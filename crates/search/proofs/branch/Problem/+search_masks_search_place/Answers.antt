@@ -1,16 +1,19 @@
 -- The search: each of its two functions does what the rules say of a place and of its masks, given that calls further on do. Assumes nothing.
 use native.Mathlib.Omega.{arith}
 use mathlib.Core.Logic.{inl, inr}
-use mathlib.Core.Path.{◌≡◌, ap, subst⁻¹, ◌∙◌}
+use mathlib.Core.Path.{◌≡◌, sym, ap, subst⁻¹, ◌∙◌}
 use Prim.Native.Nat.{ℕ, ◌+◌, ◌-◌, ◌≤◌, ◌<◌}
 use lib.ListN.{take}
 use Rattle.rules.specs.Basics.{up_from}
 use Rattle.rules.specs.Search.{candidates_in}
-use Rattle.search.specs.Branch.{fixed_in, adds_in, tried_in, Ready, Placed}
+use Rattle.rules.specs.Settings.{unset}
+use Rattle.rules.proofs.Lists.{default_same}
+use Rattle.rules.proofs.StatedMasks.{none_stated, one_stated}
+use Rattle.search.specs.Branch.{size_in, fixed_in, adds_in, tried_in, Ready, Placed}
 use Rattle.search.proofs.FixedPlaces.{tried_at}
 use Rattle.search.proofs.Moves.{goes_on, ready_next, with_mask, masked_none, masked_due, kept_skip, masked_skip, kept_below, masked_enter, masks_next, placed_masks, placed_last}
 use Rattle.search.proofs.branch.Problem.+search_masks_search_place.Goals as goal
-use Rattle.search.proofs.branch.Problem.+search_masks_search_place.Goals.{search_masks-After-from, search_masks-then-total-walk, search_masks-else-total-walk, search_place-then-own, search_place-else-own, search_place-Joined-own}
+use Rattle.search.proofs.branch.Problem.+search_masks_search_place.Goals.{search_masks-After-from, search_masks-then-total-walk, search_masks-else-total-walk, search_place-in-Some-stated_mask, search_place-in-None, search_place-Joined-stated_mask}
 
 -- ---- The masks of a place
 
@@ -81,30 +84,37 @@ search_masks-returns t c =
 -- ---- A place
 
 -- there is a place, and these masks are tried at it
-module _ (t : ℕ) (c : search_place-Joined-own t) where
+module _ (t : ℕ) (c : search_place-Joined-stated_mask t) where
+  -- the byte that is read
+  read : c.in-Some.own.now ≡ fixed_in c.args.self.now c.args.p
+  read = c.in-Some.ensures.lookup.1 ∙ default_same c.args.self.now.fixed.now c.args.p c.in-Some.own.now unset c.in-Some.ensures.lookup.3.0
+
   masks_tried : let b = c.args.self.now in
-      (c.if-own.first.0 ≤ c.if-own.first.1)
-      × (c.if-own.first.1 ≤ tried_in b c.args.used)
-      × (up_from c.if-own.first.0 (c.if-own.first.1 - c.if-own.first.0) ≡ candidates_in b.limits.masks (fixed_in b) b.size (take c.args.p c.args.walk.now.partial))
+      (c.match-stated_mask.first.0 ≤ c.match-stated_mask.first.1)
+      × (c.match-stated_mask.first.1 ≤ tried_in b c.args.used)
+      × (up_from c.match-stated_mask.first.0 (c.match-stated_mask.first.1 - c.match-stated_mask.first.0) ≡ candidates_in b.limits.masks (fixed_in b) (size_in b) (take c.args.p c.args.walk.now.partial))
   masks_tried =
-      tried_at c.requires.ready (omega arith) c.fixed_mask-own.ensures c.if-own.first.0 c.if-own.first.1
-      (elim c.if-own.branch [
-        | search_place-then-own w ↦ inr (w.if-own.true, ap (λ (q : ℕ × ℕ). q.0) w.first-is, ap (λ (q : ℕ × ℕ). q.1) w.first-is ∙ w.min.ensures)
-        | search_place-else-own w ↦ inl (w.if-own.false, ap (λ (q : ℕ × ℕ). q.0) w.first-is ∙ w.from-mask.ensures, ap (λ (q : ℕ × ℕ). q.1) w.first-is ∙ ap (λ (m : ℕ). m + 1) w.from-mask.ensures)
+      tried_at c.requires.ready c.in-Some.ensures.lookup.3.0 read c.match-stated_mask.first.0 c.match-stated_mask.first.1
+      (elim c.match-stated_mask.branch [
+        | search_place-in-Some-stated_mask w ↦
+            let own = one_stated c.in-Some.own.now (sym w.in-Some-stated_mask.is ∙ c.stated_mask.ensures) in
+            inl (own.0, ap (λ (q : ℕ × ℕ). q.0) w.first-is ∙ w.from.ensures ∙ own.1, ap (λ (q : ℕ × ℕ). q.1) w.first-is ∙ ap (λ (m : ℕ). m + 1) (w.from-in-Some-stated_mask.ensures ∙ own.1))
+        | search_place-in-None w ↦
+            inr (none_stated c.in-Some.own.now (sym w.in-None.is ∙ c.stated_mask.ensures), ap (λ (q : ℕ × ℕ). q.0) w.first-is, ap (λ (q : ℕ × ℕ). q.1) w.first-is ∙ w.min.ensures)
       ])
 
-pub search_place-returns-then-self-p : goal.search_place-returns-then-self-p
-search_place-returns-then-self-p t c =
+pub search_place-returns-in_default : goal.search_place-returns-in_default
+search_place-returns-in_default t c =
     let a = c.args in
-    rw (c.hold.ensures.held, c.hold.ensures.handed) (placed_last c.requires.ready c.requires.goes_on c.if-self-p.true)
+    rw (c.hold.ensures.held, c.hold.ensures.handed) (placed_last c.requires.ready c.requires.goes_on c.in_default.ensures.lookup.3)
 
 pub search_place-search_masks-requires : goal.search_place-search_masks-requires
 search_place-search_masks-requires t c =
-    let here = (goal.at.search_place-search_masks-requires t c).Joined-own in
-    (omega (arith, c.decreases), (c.requires.ready, (record { adds = c.added_row-row.ensures.adds; small = c.added_row-row.ensures.small }, (c.if-self-p.false, ((masks_tried t here).0, (masks_tried t here).1)))))
+    let here = (goal.at.search_place-search_masks-requires t c).Joined-stated_mask in
+    (omega (arith, c.decreases), (c.requires.ready, (record { adds = c.added_row-row.ensures.adds; small = c.added_row-row.ensures.small }, (c.in-Some.ensures.lookup.3.0, ((masks_tried t here).0, (masks_tried t here).1)))))
 
 pub search_place-returns : goal.search_place-returns
 search_place-returns t c =
-    let here = (goal.at.search_place-returns t c).Joined-own in
+    let here = (goal.at.search_place-returns t c).Joined-stated_mask in
     let a = c.args in
-    placed_masks c.requires.ready _ _ c.if-self-p.false (masks_tried t here).2 c.search_masks.ensures
+    placed_masks c.requires.ready _ _ c.in-Some.ensures.lookup.3.0 (masks_tried t here).2 c.search_masks.ensures
