@@ -20,7 +20,7 @@ use Rattle.places.specs.Local.{Neighbours, no_neighbours, conflicts_at, stitches
 use Rattle.places.specs.Parts.{place_at, places_of, Parts}
 use Rattle.places.specs.LaidOut.{LaidOut}
 use Rattle.places.proofs.Counting.{count_sum}
-use Rattle.places.proofs.Laying.{PartsTo, parts_none}
+use Rattle.places.proofs.Laying.{PartsTo}
 
 -- ---- Reading
 
@@ -90,9 +90,6 @@ module _ {g : Graph} {starts entries : List ℕ} (size : ℕ) (laid : PartsTo (E
   stitches k h =
       let read = ap (λ (n : Neighbours). n.stitches) (place_read starts entries k (omega (arith, half))) in
       subst⁻¹ (Lists g.stitches k) read ((laid.part (2 * k + 1) (omega arith)).stitches k refl)
-
-pub none_laid : Parts (0 ∷ []) []
-none_laid = laid_parts {g = record { conflicts = λ u v. 0; stitches = λ u v. 0 }} 0 (parts_none _)
 
 pub places_none : places_of (0 ∷ []) [] ≡ []
 unfolding places_of up_from

@@ -1,22 +1,18 @@
 -- The members of a set, the least first: as a loop takes them out, and those that are the pieces of a unit. Assumes nothing.
-use mathlib.Core.Bool.{Bool, false, ◌&&◌, ◌||◌, and-false, or-false, or-true}
+use mathlib.Core.Bool.{Bool, false, ◌&&◌}
 use mathlib.Core.List.{List, [], ◌∷◌, ◌++◌}
-use mathlib.Core.Logic.{by_cases}
-use mathlib.Core.Path.{◌≡◌, refl, sym, ap, ◌∙◌}
+use mathlib.Core.Path.{◌≡◌, sym, ap, ◌∙◌}
 use Prim.Native.Nat.{ℕ, zero, suc, ◌+◌, ◌-◌, ◌≤◌, ◌<◌}
 use native.Mathlib.Nat.{add-suc}
 use native.Mathlib.Omega.{arith}
-use native.Mathlib.Decide.{ℕ_discrete}
 use lib.Dec.{eqb, ltb}
-use lib.ListN.{length, get_or, set, replicate, length-set, get_or-replicate}
-use lib.Seq.{get_or-set_same, get_or-set_other}
-use borrow.Author.Tests.{eq-eqb, ne_eqb, lt-ltb, le-ltb}
-use Rattle.std.proofs.lemmas.List.{get_or_default}
+use lib.ListN.{length, get_or, replicate, get_or-replicate}
+use borrow.Author.Tests.{lt-ltb, le-ltb}
 use Rattle.bitset.specs.Bits.{member, Empty, Taken}
 use Rattle.rules.specs.Basics.{up_to, keep}
 use Rattle.rules.specs.Units.{merged_into}
 use Rattle.rules.proofs.Lists.{keep_same, keep_none, in_up_to, up_to_snoc}
-use Rattle.rules.proofs.Tests.{by_test, ltb_next}
+use Rattle.rules.proofs.Tests.{by_test}
 use Rattle.adjacency.specs.Members.{members_of}
 use Rattle.adjacency.specs.UnitGraph.{unit_at}
 use Rattle.adjacency.proofs.MemberLaws.{members_first, members_out}
@@ -59,32 +55,3 @@ pub record Sorted (units : List ℕ) (n : ℕ) (sets : List (List ℕ)) : Type 0
 -- no set has a member yet
 pub none_there : (none : List ℕ) → Empty none → (u q : ℕ) → u < 512 → member (get_or (replicate 512 none) u []) q ≡ false
 none_there none e u q l = ap (λ (s : List ℕ). member s q) (get_or-replicate 512 u none [] l) ∙ e.none q
-
-pub sorted_none : (units : List ℕ) (sets : List (List ℕ)) → length sets ≡ 512 → ((u q : ℕ) → u < 512 → member (get_or sets u []) q ≡ false) → Sorted units 0 sets
-sorted_none units sets long none = record { long = long; has = λ u q l. none u q l ∙ rw (le-ltb q 0 (omega arith)) }
-
--- where q is not n, it is below the next number exactly where it is below n
-other_next : (q n : ℕ) → (q ≡ n → ⊥) → ltb q (n + 1) ≡ ltb q n
-other_next q n e = ltb_next q n ∙ rw (ne_eqb q n e) (or-false (ltb q n))
-
--- piece n comes into the set of its unit
-pub sorted_next : {units : List ℕ} {n : ℕ} {sets : List (List ℕ)} (v : ℕ) (old new : List ℕ) → v < 512 → v ≡ unit_at units n → Sorted units n sets
-    → ((q : ℕ) → member new q ≡ (member (get_or sets v old) q || eqb q n)) → Sorted units (n + 1) (set sets v new)
-sorted_next {units} {n} {sets} v old new small at s put =
-    let there : v < length sets = omega (arith, s.long) in
-    let before : (q : ℕ) → member (get_or sets v old) q ≡ (ltb q n && eqb (unit_at units q) v)
-    = λ q. ap (λ (x : List ℕ). member x q) (get_or_default sets v old [] there) ∙ s.has v q small in
-    let came : (q : ℕ) → (member (get_or sets v old) q || eqb q n) ≡ (ltb q (n + 1) && eqb (unit_at units q) v)
-    = λ q. by_cases (ℕ_discrete q n)
-    (λ e. rw (e, eq-eqb n n refl, or-true, lt-ltb n (n + 1) (omega arith), eq-eqb (unit_at units n) v (sym at)))
-    (λ e. rw (before q, ne_eqb q n e, other_next q n e) (or-false (ltb q n && eqb (unit_at units q) v))) in
-    record {
-      long = length-set sets v new ∙ s.long;
-      has = λ u q l. by_cases (ℕ_discrete u v)
-          (λ e. rw e (ap (λ (x : List ℕ). member x q) (get_or-set_same sets v new [] there) ∙ put q ∙ came q))
-          (λ d.
-          ap (λ (x : List ℕ). member x q) (get_or-set_other sets v u new [] d) ∙ s.has u q l
-          ∙ by_cases (ℕ_discrete q n)
-          (λ e. let other : eqb (unit_at units q) u ≡ false = ne_eqb (unit_at units q) u (λ x. d (sym x ∙ ap (unit_at units) e ∙ sym at)) in rw other (and-false (ltb q n) ∙ sym (and-false (ltb q (n + 1)))))
-          (λ e. rw (other_next q n e)));
-    }

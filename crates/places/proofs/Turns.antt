@@ -1,24 +1,20 @@
 -- A turn of laying out: the places below k are laid out, their pieces have come in, and there is room for the entries of the others. Assumes nothing.
-use mathlib.Core.Bool.{false}
 use mathlib.Core.List.{List, [], ◌∷◌, ◌++◌}
 use mathlib.Core.Path.{◌≡◌, subst}
 use Prim.Native.Nat.{ℕ, ◌+◌, ◌*◌, ◌≤◌, ◌<◌}
 use native.Mathlib.Omega.{arith}
 use lib.ListN.{length, get_or, length-append}
-use Rattle.bitset.specs.Bits.{member}
 use Rattle.bitset.specs.declared.matrix.Matrix.{Matrix}
 use Rattle.rules.specs.Search.{local_graph}
 use Rattle.rules.specs.Units.{merged_into}
-use Rattle.rules.proofs.Tests.{clash}
 use Rattle.adjacency.specs.Members.{members_of}
 use Rattle.adjacency.specs.UnitGraph.{unit_at, unit_graph}
 use Rattle.places.specs.declared.seats.Seats.{Seats}
 use Rattle.places.specs.Seats.{Seated, place_entries}
 use Rattle.places.specs.LaidOut.{Exclusive}
-use Rattle.places.proofs.Members.{none_left}
 use Rattle.places.proofs.Seating.{Placed, placed_next}
 use Rattle.places.proofs.Counting.{place_lists, place_few, pieces_few, pieces_in, room_next, room_left}
-use Rattle.places.proofs.Laying.{PartsTo, parts_none, parts_next}
+use Rattle.places.proofs.Laying.{PartsTo, parts_next}
 use Rattle.places.proofs.LocalCost.{EdgePart, conflict_part, stitch_part}
 
 pub record Turn (conflictWords stitchWords : Matrix) (units order starts entries : List ℕ) (k : ℕ) (seats : Seats) : Type 0 where
@@ -69,11 +65,3 @@ module _ {conflictWords stitchWords : Matrix} {units order starts entries : List
             (room_next (length entries) (length (members_of seats.there)) (length pieces) (length conflicts + length stitches) turn.room
             (place_few conflictWords stitchWords known.exclusive seats pieces));
       }
-
-pub turn_none : (conflictWords stitchWords : Matrix) (units order : List ℕ) (seats : Seats) → ((q : ℕ) → member seats.there q ≡ false)
-    → Turn conflictWords stitchWords units order (0 ∷ []) [] 0 seats
-turn_none conflictWords stitchWords units order seats none = record {
-  laid = parts_none _;
-  placed = record { inside = λ q e. clash e (none q); there = λ q i l h e. absurd (omega arith) };
-  room = rw (none_left seats.there (λ q h. none q)) (omega arith);
-}

@@ -14,9 +14,6 @@ use Rattle.places.proofs.order.list_members.Goals.{In-None}
 listed : (c : In-None) → c.loop-v.order.items ≡ members_of c.args.members.now
 listed c = append_all (λ (xs : List ℕ). xs) c.loop-v.order.items c.loop-v.v-iterator c.loop-v.invariant c.in-None.ensures.steps.0 refl
 
-pub loop-v-init : goal.loop-v-init
-loop-v-init c = rw (c.into_iter-v-iterator.ensures.into_iter_gives, c.members-v-items.ensures, c.new-order.ensures)
-
 pub push-requires : goal.push-requires
 push-requires c =
     let room = append_room (λ (xs : List ℕ). xs) c.loop-v.order.items c.loop-v.v-iterator c.loop-v.invariant c.in-Some.ensures.steps (c.in-Some.v ∷ []) refl in

@@ -11,7 +11,7 @@ use Rattle.adjacency.specs.UnitGraph.{unit_at}
 use Rattle.places.specs.Seats.{place_entries}
 use Rattle.places.proofs.Members.{none_there, unit_members}
 use Rattle.places.proofs.LocalCost.{laid_parts, laid_all}
-use Rattle.places.proofs.Turns.{Known, turn_none, turn_room, turn_next}
+use Rattle.places.proofs.Turns.{Known, turn_room, turn_next}
 use Rattle.places.proofs.lists.Lists.lay_out.Goals as goal
 use Rattle.places.proofs.lists.Lists.lay_out.Goals.{In-loop-k}
 
@@ -53,11 +53,6 @@ pub list_place-requires : goal.list_place-requires
 list_place-requires c =
     let t = (goal.at.list_place-requires c).In-loop-k in
     record { room = rw (found t c.from.result c.index-of_units-from.result c.from.ensures) (omega (arith, room t)) }
-
-pub loop-k-init : goal.loop-k-init
-loop-k-init c =
-    rw (c.push.ensures.items, c.clear-2.ensures, c.clear.ensures)
-    (turn_none c.args.edges.now.conflicts c.args.edges.now.stitches c.args.units.now c.args.order.now c.none-seats.result c.none-seats.ensures)
 
 pub list_place-requires-in-loop-k : goal.list_place-requires-in-loop-k
 list_place-requires-in-loop-k c =

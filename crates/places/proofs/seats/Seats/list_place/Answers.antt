@@ -6,9 +6,6 @@ use Rattle.places.specs.Seats.{piece_entries, place_entries}
 use Rattle.places.proofs.Appending.{append_room, append_next, append_all}
 use Rattle.places.proofs.seats.Seats.list_place.Goals as goal
 
-pub loop-piece-init : goal.loop-piece-init
-loop-piece-init c = rw (c.into_iter-piece-iterator.ensures.into_iter_gives, c.members-piece-items.ensures)
-
 pub list_piece-requires-clause-room : goal.list_piece-requires-clause-room
 unfolding place_entries
 list_piece-requires-clause-room c =
