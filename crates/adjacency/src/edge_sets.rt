@@ -29,8 +29,8 @@ impl EdgeSets {
     }
 }
 
-// Joins i and j in the words of what was found between them. Ties are no part of `EdgeSets`: they are done with once units are numbered, and fixed memory that holds
-// both would be kept through the search.
+// Joins i and j in the words of what was found between them. Ties are no part of `EdgeSets`, whose fixed memory is kept through the search, and a struct of what
+// is lent of both would be made for this crate alone.
 fn join_by(edge: Edge, i: usize, j: usize, edges: &mut EdgeSets, ties: &mut Matrix)
     requires i_bound { i < 512 }
     requires j_bound { j < 512 }

@@ -40,7 +40,7 @@ pub fn counts(edge: Edge, a: u8, b: u8) -> bool
     }
 }
 
-// How many edges between j and lesser numbers count.
+// How many edges between j and lesser numbers count. The edge's kind is named and no closure handed on, since the contract says by it what counts.
 fn count_edges(edge: Edge, words: &Matrix, masks: &[u8], j: usize) -> u32
     requires j_bound { j < 512 }
     requires j_in_bounds { j < length masks.now }
@@ -65,6 +65,20 @@ pub fn cost_of(weight: u32, conflicts: u32, stitches: u32) -> u32
     weight * conflicts + stitches
 }
 
+// The score that has these counts.
+pub fn score_of(weight: u32, conflicts: u32, stitches: u32) -> Score
+    requires weight_bound { weight ≤ 1000 }
+    requires conflicts_bound { conflicts ≤ 130816 }
+    requires stitches_bound { stitches ≤ 130816 }
+    ensures { result ≡ record { conflicts = conflicts; stitches = stitches; cost = cost_of weight conflicts stitches } }
+{
+    Score {
+        conflicts,
+        stitches,
+        cost: cost_of(weight, conflicts, stitches),
+    }
+}
+
 // The score of masks by the edges of as many numbers as there are masks.
 pub fn score_edges(weight: u32, edges: &EdgeSets, masks: &[u8]) -> Score
     requires weight_bound { weight ≤ 1000 }
@@ -77,9 +91,5 @@ pub fn score_edges(weight: u32, edges: &EdgeSets, masks: &[u8]) -> Score
         conflicts += count_edges(Edge::Conflict, &edges.conflicts, masks, j);
         stitches += count_edges(Edge::Stitch, &edges.stitches, masks, j);
     }
-    Score {
-        conflicts,
-        stitches,
-        cost: cost_of(weight, conflicts, stitches),
-    }
+    score_of(weight, conflicts, stitches)
 }

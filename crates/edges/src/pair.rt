@@ -1,5 +1,6 @@
 // What two pieces are to each other: whether they overlap, how far they are apart, how far they touch, and the edge between them (RULES 2 and 17). The
-// settings and the two pieces are handed on as three values: a struct of them would be made for each pair, and its fields named in each body.
+// settings and the two pieces are handed on as three values: a struct of them would be made for each pair, and its fields named in each body. So their ranges stand
+// in contracts, of those functions that multiply.
 ghost use Rattle.std.specs.Prelude.{true, ◌≡◌, ◌*◌, ◌≤◌};
 ghost use Rattle.rules.specs.Settings.{settings_in_range, piece_in_range};
 ghost use Rattle.rules.specs.Edges.{overlapping, contact, squared_gap, conflict_edge, stitch_edge, tied, edge_of};

@@ -38,7 +38,8 @@ fn test_row(layer: &ValidLayer, masks: &[u8], j: usize, ties: &mut Matrix) -> Ta
     tally
 }
 
-// Tests every pair of the pieces of a layer. Fills the words of ties, whatever was in them.
+// Tests every pair of the pieces of a layer. That there are as many masks as pieces stands in contracts, here and where a run fills its masks: one list is read and the
+// other written, so no one struct has both. Fills the words of ties, whatever was in them.
 pub fn test_pairs(layer: &ValidLayer, masks: &[u8], ties: &mut Matrix) -> Tally
     requires { length masks.now ≡ length layer.now.pieces.now }
     ensures tested_value { result.tested ≡ pairs_of (length layer.now.pieces.now) }

@@ -1,4 +1,5 @@
-// Pieces in 512 records, which are zero after them, as a layer that was read is handed back (RULES 9). Contracts see the list of the pieces.
+// Pieces in 512 records, which are zero after them, as a layer that was read is handed back (RULES 9): they are filled where they will lie, and no list is copied into
+// them. Contracts see the list of the pieces.
 ghost use Rattle.std.specs.Prelude.{◌≡◌, ◌++◌, ◌-◌, ◌<◌, ◌≤◌, List, [], ◌∷◌, drop, length, replicate, take};
 ghost use Rattle.rules.specs.declared.layer.Piece.{Piece};
 ghost use Rattle.rules.specs.Answers.{in_records};

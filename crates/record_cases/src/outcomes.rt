@@ -49,6 +49,7 @@ pub fn refused(refusal: Refusal, place: Place) -> Result<Done, Refused>
     Err(refusal.at(place))
 }
 
+// An answer, and whether lent memory is as it must be. It is printed as one row of eight numbers, whatever was called.
 #[derive(Clone, Copy, Debug, PartialEq, Eq)]
 pub struct Outcome {
     pub answer: Result<Done, Refused>,

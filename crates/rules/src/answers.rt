@@ -46,7 +46,8 @@ pub struct Decomposition {
 }
 
 // A layer that was read. The records after `count` are zero. The rules hand back settings and records after a refusal too, all zero, so
-// the answer stands beside them and not around them.
+// the answer stands beside them and not around them. That they are a valid layer where the answer is `Ok` is promised by what reads them (`HandedBack`), and no ghost
+// field: what hands back zeros, and knows no rule, would have to prove it.
 #[derive(Clone, Copy)]
 pub struct LayerRead {
     pub answer: Result<(), Refused>,

@@ -20,6 +20,7 @@ pub struct Settings {
     pub budget: u32,
 }
 
+// The ends of the ranges, two numbers each: a range is made by a call, and a constant's value may not have one.
 impl Settings {
     pub const MASKS_LEAST: u32 = 2;
 

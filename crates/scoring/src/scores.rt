@@ -6,9 +6,9 @@ ghost use Rattle.rules.specs.Questions.{ask_each};
 ghost use Rattle.scoring.specs.MaskQuestions.{mask_question, tallied, units_scored};
 
 use bitset::Matrix;
-use counting::cost_of;
+use counting::score_of;
 use pair_tests::{Tally, test_pairs};
-use rules::{Piece, Place, Refusal, Refused, Score, Scoring, Settings, ValidLayer, mask_in_range};
+use rules::{Piece, Place, Refusal, Refused, Scoring, Settings, ValidLayer, mask_in_range};
 
 // Question 8 of each mask.
 fn judge_masks(limit: u32, masks: &[u8]) -> Result<(), Refused>
@@ -31,11 +31,7 @@ fn scoring_of(weight: u32, tally: Tally) -> Scoring
     ensures { result ≡ tallied weight tally }
 {
     Scoring {
-        score: Score {
-            conflicts: tally.conflicts,
-            stitches: tally.stitches,
-            cost: cost_of(weight, tally.conflicts, tally.stitches),
-        },
+        score: score_of(weight, tally.conflicts, tally.stitches),
         tested: tally.tested,
     }
 }

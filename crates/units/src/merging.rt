@@ -1,4 +1,5 @@
-// The edges of units, from those of pieces. Only edges are visited, each from its greater piece.
+// The edges of units, from those of pieces. Only edges are visited, each from its greater piece. That there are at most 512 units and each number is below 512 stands
+// in the contracts here: a graph of units (`core_search`), which has it, also has edges of no two kinds, and merging asks no caller for that.
 ghost use Rattle.std.specs.Prelude.{◌||◌, ◌≡◌, ℕ, ◌≤◌, ◌<◌, length};
 ghost use Rattle.bitset.specs.Edges.{has_edge};
 ghost use Rattle.adjacency.specs.UnitGraph.{unit_at};

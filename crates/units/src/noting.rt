@@ -1,4 +1,5 @@
-// The mask of each unit, where masks are given for some pieces: that of its lowest piece with one. A piece with another mask than its unit is found on the way.
+// The mask of each unit, where masks are given for some pieces: that of its lowest piece with one. A piece with another mask than its unit is found on the way. What is
+// noted are numbers, as the masks that they are noted from, and as the rules' definitions take the fixed masks of units (RULES 18).
 ghost use Rattle.std.specs.Prelude.{◌≡◌, ℕ, ◌<◌, ◌≤◌, length};
 ghost use Rattle.rules.specs.Answers.{answer_of, refusal_number};
 ghost use Rattle.rules.specs.Questions.{ask_each};

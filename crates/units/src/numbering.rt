@@ -29,6 +29,7 @@ pub fn number_units(ties: &Matrix, units: &mut [u16]) -> BitSet
     let mut numbers = BitSet::empty();
     let mut rest = BitSet::below(units.len());
     while let Some(v) = rest.lowest() {
+        // Ties are one matrix and stand for both kinds of edges, so a component is asked of two matrices.
         let unit = components::component(ties, ties, &rest, v);
         give_number(&unit, v, units);
         numbers.put(v);

@@ -47,11 +47,11 @@ pub loop-j-preserved : goal.loop-j-preserved
 loop-j-preserved c =
     ((conflicts (goal.at.loop-j-preserved c).After-count_edges-conflicts).0, (stitches (goal.at.loop-j-preserved c).After-count_edges-stitches).0)
 
-pub cost_of-requires-clause-conflicts_bound : goal.cost_of-requires-clause-conflicts_bound
-cost_of-requires-clause-conflicts_bound c = rw c.loop-j.invariant.0 (pairs_small _ _ (edge_le Edge.Conflict c.args.edges.now.conflicts c.args.masks.now) (omega arith))
+pub score_of-requires-clause-conflicts_bound : goal.score_of-requires-clause-conflicts_bound
+score_of-requires-clause-conflicts_bound c = rw c.loop-j.invariant.0 (pairs_small _ _ (edge_le Edge.Conflict c.args.edges.now.conflicts c.args.masks.now) (omega arith))
 
-pub cost_of-requires-clause-stitches_bound : goal.cost_of-requires-clause-stitches_bound
-cost_of-requires-clause-stitches_bound c = rw c.loop-j.invariant.1 (pairs_small _ _ (edge_le Edge.Stitch c.args.edges.now.stitches c.args.masks.now) (omega arith))
+pub score_of-requires-clause-stitches_bound : goal.score_of-requires-clause-stitches_bound
+score_of-requires-clause-stitches_bound c = rw c.loop-j.invariant.1 (pairs_small _ _ (edge_le Edge.Stitch c.args.edges.now.stitches c.args.masks.now) (omega arith))
 
 pub returns : goal.returns
 unfolding score_of conflicts_of stitches_of
@@ -60,4 +60,4 @@ returns c =
     let a = c.args in
     let e : at.j ≡ length a.masks.now = omega arith in
     let scored : ℕ → ℕ → Score = λ x y. record { conflicts = x; stitches = y; cost = a.weight * x + y } in
-    rw c.cost_of.ensures (ap₂ scored (at.invariant.0 ∙ rw e) (at.invariant.1 ∙ rw e))
+    rw c.score_of.ensures (ap₂ scored (at.invariant.0 ∙ rw e) (at.invariant.1 ∙ rw e))
