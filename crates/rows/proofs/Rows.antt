@@ -10,7 +10,7 @@ use native.Mathlib.Numerals.{add-one}
 use native.Mathlib.Omega.{arith}
 use lib.Dec.{eqb}
 use lib.ListN.{length, get_or, take, set, replicate, get_or-replicate}
-use lib.Seq.{get_or-set_same, get_or-set_other, take-suc, take-length, length-take-le}
+use lib.Seq.{get_or-set_same, get_or-set_other, take-suc, length-take-le}
 use borrow.Author.Tests.{eq-eqb, ne_eqb}
 use Rattle.rules.specs.Basics.{given, count_of}
 use Rattle.rules.proofs.Lists.{length_keep, keep_no_longer}
@@ -38,10 +38,6 @@ on_small list p m = let f : ℕ → Bool = λ u. eqb (get_or p u 0) m in omega (
 
 pub on_first : (list p : List ℕ) (m i : ℕ) → i ≤ length list → on_mask p m (take i list) ≤ i
 on_first list p m i h = omega (arith, on_small (take i list) p m, length-take-le i list h)
-
--- all entries
-pub on_all : (list p : List ℕ) (m i : ℕ) → i ≡ length list → on_mask p m (take i list) ≡ on_mask p m list
-on_all list p m i e = ap (on_mask p m) (ap (λ (n : ℕ). take n list) e ∙ take-length list)
 
 -- each entry has the mask or not
 pub on_off : (list p : List ℕ) (m : ℕ) → on_mask p m list + off_mask p m list ≡ length list

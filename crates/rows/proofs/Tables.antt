@@ -2,8 +2,8 @@
 use mathlib.Core.Bool.{Bool, ◌&&◌, and-false}
 use mathlib.Core.List.{List, []}
 use mathlib.Core.Logic.{by_cases}
-use mathlib.Core.Path.{◌≡◌, refl, sym, ap, subst⁻¹, ◌∙◌}
-use Prim.Native.Nat.{ℕ, ◌+◌, ◌≤◌, ◌<◌}
+use mathlib.Core.Path.{◌≡◌, refl, sym, ap, ◌∙◌}
+use Prim.Native.Nat.{ℕ, ◌+◌, ◌<◌}
 use native.Mathlib.Decide.{ℕ_discrete}
 use native.Mathlib.Omega.{arith}
 use lib.Dec.{eqb, ltb}
@@ -12,7 +12,7 @@ use lib.Seq.{get_or-set_same, get_or-set_other}
 use borrow.Author.Tests.{eq-eqb, ne_eqb, lt-ltb, le-ltb}
 use Rattle.rules.specs.Basics.{given}
 use Rattle.rules.proofs.Tests.{by_test, ltb_next}
-use Rattle.rows.specs.Weights.{weight_at, weight_of, Weights}
+use Rattle.rows.specs.Weights.{weight_at}
 
 -- where x is not h, it is below the next number exactly where it is below h
 other_next : (x h : ℕ) → (x ≡ h → ⊥) → ltb x (h + 1) ≡ ltb x h
@@ -57,16 +57,3 @@ table_next {weight} {rows} {k} l t =
           (λ n. get_or-set_other old k m weight 0 n ∙ t.entries k m l b ∙ rw (ne_eqb k m (λ d. n (sym d))))))
           (λ n. ap (λ (r : List ℕ). get_or r m 0) (other h n) ∙ t.entries h m a b ∙ ap (λ (x : Bool). given (eqb h m && x) weight) (sym (other_next h k n)));
     }
-
-pub table_all : {weight : ℕ} {rows : List (List ℕ)} {k : ℕ} → weight ≤ 1000 → 8 ≤ k → TableTo weight rows k → Weights rows weight
-table_all {weight} {rows} {k} light l t = record {
-  light = light;
-  entries = λ h m a b. t.entries h m a b ∙ rw (lt-ltb h k (omega arith)) (by_test (eqb h m) (λ e. rw e) (λ e. rw e));
-}
-
--- the weight of a table is the number at 0 in row 0
-pub weight_of_lem : {rows : List (List ℕ)} {weight : ℕ} → Weights rows weight → weight_of rows ≡ weight
-weight_of_lem w = w.entries 0 0 (omega arith) (omega arith)
-
-pub weights_own : {rows : List (List ℕ)} {weight : ℕ} → Weights rows weight → Weights rows (weight_of rows)
-weights_own {rows} w = subst⁻¹ (Weights rows) (weight_of_lem w) w

@@ -6,7 +6,7 @@ use lib.Dec.{eqb}
 use lib.ListN.{get_or, take}
 use Rattle.places.specs.Local.{on_mask}
 use Rattle.rows.specs.Weights.{Weights}
-use Rattle.rows.proofs.Rows.{on_none, on_first, on_all, row_more, given_most}
+use Rattle.rows.proofs.Rows.{on_none, on_first, row_more, given_most}
 use Rattle.rows.proofs.row.add_conflicts.Goals as goal
 use Rattle.rows.proofs.row.add_conflicts.Goals.{At-loop-neighbour, In-loop-neighbour}
 
@@ -48,8 +48,3 @@ loop-neighbour-preserved c m l =
 
 pub returns-clause-few_more : goal.returns-clause-few_more
 returns-clause-few_more c m l = omega (arith, few_more (goal.at.returns-clause-few_more c).At-loop-neighbour m l)
-
-pub returns-clause-adds : goal.returns-clause-adds
-returns-clause-adds c m l =
-    c.loop-neighbour.invariant m l
-    ∙ ap (λ (k : ℕ). get_or c.args.sums.now m 0 + c.args.table.now * k) (on_all c.args.neighbours.now c.args.before.now m c.loop-neighbour.neighbour-index (omega arith))

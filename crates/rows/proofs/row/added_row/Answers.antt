@@ -8,17 +8,6 @@ use Rattle.places.specs.Local.{stitches_at, on_mask, local_added}
 use Rattle.rows.proofs.Rows.{on_off, eight}
 use Rattle.rows.proofs.row.added_row.Goals as goal
 
-pub returns-clause-small : goal.returns-clause-small
-returns-clause-small c m l =
-    omega (
-      arith,
-      c.drop_stitches.ensures m l,
-      c.add_conflicts.ensures.few_more m l,
-      eight (length c.stitches_of-stitches.result.now) m l,
-      c.conflicts_of.ensures.few,
-      c.stitches_of-stitches.ensures.few,
-    )
-
 pub returns-clause-adds : goal.returns-clause-adds
 unfolding local_added
 returns-clause-adds c m l =

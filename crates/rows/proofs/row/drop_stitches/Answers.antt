@@ -1,7 +1,7 @@
 use native.Mathlib.Omega.{arith}
 use Prim.Native.Nat.{ℕ, ◌≤◌, ◌<◌}
 use lib.ListN.{get_or}
-use Rattle.rows.proofs.Rows.{on_none, on_first, on_all, row_less}
+use Rattle.rows.proofs.Rows.{on_none, on_first, row_less}
 use Rattle.rows.proofs.row.drop_stitches.Goals as goal
 use Rattle.rows.proofs.row.drop_stitches.Goals.{In-loop-neighbour}
 
@@ -26,6 +26,3 @@ pub loop-neighbour-preserved : goal.loop-neighbour-preserved
 loop-neighbour-preserved c =
     let turn = (goal.at.loop-neighbour-preserved c).In-loop-neighbour in
     row_less c.args.neighbours.now c.args.before.now c.loop-neighbour.sums c.args.sums.now c.loop-neighbour.neighbour-index (omega arith) (omega arith) (low turn) c.loop-neighbour.invariant (some turn)
-
-pub returns : goal.returns
-returns c m l = omega (arith, c.loop-neighbour.invariant m l, on_all c.args.neighbours.now c.args.before.now m c.loop-neighbour.neighbour-index (omega arith))
