@@ -21,7 +21,7 @@ fn write_run(layer: &ValidLayer, buffer: &mut [u8]) -> usize
     result_writer::write_result(buffer, result, masks)
 }
 
-// What was read, decomposed: the result text, or the refusal and the buffer as it was. Reading leaves nothing behind, so the buffer's
+// What was read, which both readers promise by one law to be judged, decomposed: the result text, or the refusal and the buffer as it was. Reading leaves nothing behind, so the buffer's
 // question, which is the first of all, can be asked here.
 fn write_read(read: LayerRead, buffer: &mut [u8]) -> Result<usize, Refused>
     requires { read.answer ≡ Ok tt → Judged read }

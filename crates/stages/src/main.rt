@@ -67,7 +67,7 @@ fn first_word(edges: &Matrix) -> u64 {
         .fold(0u64, |word, j| word | 1 << j)
 }
 
-// Stages 3 to 6 of a layer.
+// Stages 3 to 6 of a layer, called one by one as a run calls them, since the program may end after each of them.
 #[tactic(auto, using(rules::proofs::Validity::layer_facts, units::proofs::TieUnits::new_front))]
 fn first_stages(last: Stage, layer: &ValidLayer, masks: &mut [u8]) -> u64
     requires { length masks.old ≡ length layer.now.pieces.now }
