@@ -28,7 +28,7 @@ impl Reach {
     ghost use Rattle.rules.specs.Edges.{edge_of};
     ghost use Rattle.adjacency.specs.Reaches.{in_reach};
 
-    // The reach of a piece.
+    // The reach of a piece, which need not be one of a judged layer.
     #[tactic(auto, using(rules::proofs::Ranges::piece_facts))]
     pub fn of(settings: Settings, piece: Piece) -> Reach
         requires spacing_bound { settings.spacing ≤ 100000 }

@@ -8,7 +8,8 @@ ghost use Rattle.components.specs.Component.{IsComponent};
 
 use bitset::{BitSet, Matrix};
 
-// The vertices of left that a path through left joins to v, by edges of either kind.
+// The vertices of left that a path through left joins to v, by edges of either kind. Which they are is promised where v is the lowest of left, as the rules take
+// components (RULES 5); of another v it is only said that the set has v and lies in left.
 pub fn component(conflicts: &Matrix, stitches: &Matrix, left: &BitSet, v: usize) -> BitSet
     requires v_bound { v < 512 }
     requires v_value { member left.now v ≡ true }

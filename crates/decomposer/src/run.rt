@@ -35,6 +35,7 @@ pub fn decompose(layer: &ValidLayer, masks: &mut [u8]) -> Decomposition
     let units = &mut units[..layer.pieces.len()];
     let all = units::layer_units(layer, &mut edges, units);
     let mut noted = [Piece::UNSET; 512];
+    // A judged layer has no piece that differs from its unit (question 14), so that what is answered is `None`.
     let given = units::fixed_masks_of(layer.pieces);
     units::note_masks(units, given.as_slice(), &mut noted);
     let graph = UnitGraph {

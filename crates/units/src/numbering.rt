@@ -21,7 +21,8 @@ fn give_number(members: &BitSet, number: usize, units: &mut [u16])
     }
 }
 
-// Gives each piece the number of its unit, by the words of ties. Answers the set of the units' numbers.
+// Gives each piece the number of its unit, by the words of ties. Answers the set of the units' numbers. The list of units is lent: a graph of units refers to it, and it
+// has as many numbers as the caller has pieces.
 pub fn number_units(ties: &Matrix, units: &mut [u16]) -> BitSet
     requires { length units.old ≤ 512 }
     ensures { Numbered ties.now (length units.old) units.new result }
