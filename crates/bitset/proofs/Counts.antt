@@ -11,7 +11,7 @@ use native.Mathlib.Omega.{arith}
 use lib.Dec.{eqb, ltb}
 use lib.Count.{ones, ones_step, ones-le}
 use mir.Val.{bool_byte}
-use borrow.Author.Tests.{eq-eqb, ne_eqb, not-true, lt-ltb, le-ltb}
+use borrow.Author.Tests.{eq-eqb, ne_eqb, lt-ltb, le-ltb}
 use Rattle.bitset.specs.Bits.{bit, count_below, Size}
 use Rattle.bitset.proofs.Words.{bit_zero, bit_suc, by_digit}
 
@@ -92,26 +92,6 @@ count_all n f h = omega (arith, count_not n f, count_none n (λ k. not (f k)) (�
 -- those below m, of those below n
 pub count_below_lem : (m n : ℕ) → m ≤ n → count_below n (λ k. ltb k m) ≡ m
 count_below_lem m n h = count_gap m n (λ k. ltb k m) h (λ k l _. le-ltb k m l) ∙ count_all m (λ k. ltb k m) (λ k l. lt-ltb k m l)
-
--- ---- who is counted
-
-pub count_some : (n : ℕ) (f : ℕ → Bool) → 0 < count_below n f → (j : ℕ) × (j < n) × (f j ≡ true)
-unfolding count_below
-count_some zero f h = absurd (omega arith)
-count_some (suc n) f h = go (f n) refl (count_some n f)
-  where
-    go : (b : Bool) → f n ≡ b → (0 < count_below n f → (j : ℕ) × (j < n) × (f j ≡ true)) → (j : ℕ) × (j < suc n) × (f j ≡ true)
-    go true e ih = (n, omega arith, e)
-    go false e ih =
-        let b : bool_byte (f n) ≡ 0 = rw e in
-        let (j, l, p) = ih (omega arith) in
-        (j, omega arith, p)
-
--- fewer than n of the n numbers pass, so one does not: fewer than n masks in use leave one free
-pub count_missing : (n : ℕ) (f : ℕ → Bool) → count_below n f < n → (j : ℕ) × (j < n) × (f j ≡ false)
-count_missing n f h =
-    let (j, l, e) = count_some n (λ k. not (f k)) (omega (arith, count_not n f)) in
-    (j, l, not-true (f j) e)
 
 -- ---- one element more or less
 

@@ -2,7 +2,7 @@
 -- matrix, and how many numbers below a bound pass a test. Bits are read by division and remainder, so that
 -- arithmetic settles most of what is asked of them.
 -- Assumes nothing.
-use Rattle.std.specs.Prelude.{ℕ, zero, suc, ◌+◌, ◌/◌, ◌%◌, ◌^◌, ◌≤◌, ◌<◌, ◌≡◌, Bool, true, false, not, ◌&&◌, ◌||◌, List, [], eqb, get_or, replicate, Option, MatchOption}
+use Rattle.std.specs.Prelude.{ℕ, zero, suc, ◌+◌, ◌/◌, ◌%◌, ◌^◌, ◌≤◌, ◌<◌, ◌≡◌, Bool, true, false, not, ◌&&◌, List, [], eqb, get_or, replicate, Option, MatchOption}
 use mir.Val.{bool_byte}
 
 -- whether bit j of the word x is set; bit 0 is the lowest
@@ -63,13 +63,12 @@ pub record Dropped (x y : ℕ) : Type 0 where
   pub less : y < x
   pub bits : (r : ℕ) → LowestSet x r → (k : ℕ) → bit y k ≡ (bit x k && not (eqb k r))
 
--- bit r of x is clear and below 8, and every bit below it is set
-pub record Lowest (x r : ℕ) : Type 0 where
-  pub small : r < 8
+-- r is the lowest of K masks whose bit in x is clear
+pub record Lowest (K x r : ℕ) : Type 0 where
+  pub small : r < K
   pub clear : bit x r ≡ false
   pub below : (k : ℕ) → k < r → bit x k ≡ true
 
--- y is x with bit m too, and has eight bits if x has
-pub record WithMask (x m y : ℕ) : Type 0 where
-  pub bits : (k : ℕ) → bit y k ≡ (bit x k || eqb k m)
-  pub small : x < 2 ^ 8 → y < 2 ^ 8
+-- o is the lowest of K masks whose bit in x is clear, or None where no mask's is
+abbrev pub LowestFree : ℕ → ℕ → Option ℕ → Type 0
+LowestFree K x o = MatchOption o ((k : ℕ) → k < K → bit x k ≡ true) (Lowest K x)

@@ -1,6 +1,6 @@
-// Bit sets: sets of numbers below 512 in eight words of 64 bits, and square bit matrices of 512 such sets, which hold the
-// adjacency of a graph. A bit set is a set of vertices, and a row is a vertex's neighbours. What builds adjacency, peels
-// vertices of low degree, finds components and picks masks stands on this crate.
+// Bit sets: sets of numbers below 512 in eight words of 64 bits, square bit matrices of 512 such sets, which hold the
+// adjacency of a graph, and sets of masks. A bit set is a set of vertices, and a row is a vertex's neighbours. What builds
+// adjacency, peels vertices of low degree, finds components and picks masks stands on this crate.
 //
 // Contracts see a set as the list of its words, and say of each number that can be a member whether it is one afterwards, so
 // no caller looks at words. Of a matrix they say which numbers are joined.
@@ -12,11 +12,13 @@
 #![tactic(auto)]
 
 ghost use Rattle.std.specs.Prelude.{◌≡◌, ◌&&◌, ◌||◌, not, false, ℕ, ◌<◌, ◌≤◌, eqb, ltb};
-ghost use Rattle.bitset.specs.Bits.{bit, member, count_below, Empty, LowestSet, Dropped, Lowest, WithMask};
+ghost use Rattle.bitset.specs.Bits.{bit, member, count_below, Empty, LowestSet, Dropped};
 
+pub use masks::MaskSet;
 pub use matrix::Matrix;
 pub use set::{BitSet, Members};
 
+mod masks;
 mod matrix;
 mod set;
 
@@ -50,22 +52,4 @@ fn minus(a: u64, b: u64) -> u64
     ensures { (k : ℕ) → k < 64 → bit result k ≡ (bit a k && not (bit b k)) }
 {
     a & !b
-}
-
-// ---- masks in use, a bit to a mask
-
-// The masks in use, and m.
-pub fn with_mask(used: u32, m: u8) -> u32
-    requires { m < 8 }
-    ensures { WithMask used m result }
-{
-    used | 1u32 << m
-}
-
-// The lowest mask that is not in use, of which one below 8 is not.
-pub fn lowest_free(used: u32) -> u32
-    requires { (j : ℕ) × (j < 8) × (bit used j ≡ false) }
-    ensures { Lowest used result }
-{
-    u32::trailing_zeros(!used)
 }

@@ -4,21 +4,18 @@ use mathlib.Core.Bool.{Bool, true, false, not, ◌&&◌, ◌||◌, or-true, or-f
 use mathlib.Core.List.{List, [], ◌∷◌, ◌++◌, map-append}
 use mathlib.Core.Logic.{◌⊎◌, inl, inr, ⊎_elim}
 use mathlib.Core.Path.{◌≡◌, refl, sym, ap, ◌∙◌}
-use Prim.Native.Nat.{ℕ, ◌≤◌, ◌<◌, ◌^◌}
+use Prim.Native.Nat.{ℕ, ◌≤◌, ◌<◌}
 use native.Mathlib.Omega.{arith}
 use lib.Dec.{eqb}
 use lib.ListN.{length, set, length-set}
-use lib.Count.{ones}
 use borrow.Author.Tests.{eqb-true, eq-eqb}
 use Rattle.std.proofs.lemmas.List.{nil_from_length}
 use Rattle.std.proofs.lemmas.List.Elements.{All-weaker, All-pop}
 use Rattle.std.specs.Prelude as std
 use Rattle.std.specs.Prelude.{None, Some, unwrap_or}
-use Rattle.bitset.specs.Bits.{bit, member, Taken, Lowest, WithMask}
+use Rattle.bitset.specs.Bits.{bit, member, Taken, LowestFree}
 use Rattle.bitset.specs.Edges.{has_edge, both}
 use Rattle.bitset.specs.declared.matrix.Matrix.{Matrix}
-use Rattle.bitset.proofs.Counts.{count_in, count_le, count_bits, count_missing}
-use Rattle.bitset.proofs.Words.{bit_of_zero}
 use Rattle.rules.specs.Basics.{up_to, any_of, find, found_or, without}
 use Rattle.rules.specs.Edges.{Graph, in_conflict}
 use Rattle.rules.specs.Score.{mask_of}
@@ -33,20 +30,19 @@ use Rattle.adjacency.proofs.AdjacencyLaws.{given_test}
 use Rattle.adjacency.proofs.MemberLaws.{in_members, members_out}
 use Rattle.reduction.specs.declared.peeling.Removal.{Removal}
 use Rattle.reduction.specs.Removals.{went, removal_at, removals_of}
-use Rattle.reduction.specs.Returning.{takes, InUse, LowestFree, mask_back, ReturnsWith, Masked, HasPlace, Placeable, PutBack}
+use Rattle.reduction.specs.Returning.{takes, InUse, mask_back, ReturnsWith, Masked, HasPlace, Placeable, PutBack}
 
 -- ---- the masks in use
 
 -- the masks in `used`, and those of the neighbours still to come, are those of all neighbours
 pub record Seen (words : Matrix) (there masks rest : List ℕ) (v used : ℕ) : Type 0 where
   pub bits : (m : ℕ) → (bit used m || any_of (takes words masks v m) (members_of rest)) ≡ any_of (takes words masks v m) (members_of there)
-  pub small : used < 2 ^ 8
   pub inside : (k : ℕ) → k < 512 → member rest k ≡ true → both words v there k ≡ true
 
-pub seen_none : (words : Matrix) (there masks rest : List ℕ) (v : ℕ) → ((k : ℕ) → member rest k ≡ both words v there k) → Seen words there masks rest v 0
-seen_none words there masks rest v near = record {
-  bits = λ m. rw (bit_of_zero m) (by_test (any_of (takes words masks v m) (members_of there)) (λ e. here m e ∙ sym e) (λ e. out m e ∙ sym e));
-  small = omega arith;
+pub seen_none : (words : Matrix) (there masks rest : List ℕ) (v used : ℕ) → ((m : ℕ) → bit used m ≡ false)
+    → ((k : ℕ) → member rest k ≡ both words v there k) → Seen words there masks rest v used
+seen_none words there masks rest v used empty near = record {
+  bits = λ m. rw (empty m) (by_test (any_of (takes words masks v m) (members_of there)) (λ e. here m e ∙ sym e) (λ e. out m e ∙ sym e));
   inside = λ k l e. sym (near k) ∙ e;
 }
   where
@@ -66,7 +62,7 @@ seen_none words there masks rest v near = record {
 
 module _ {words : Matrix} {there masks rest : List ℕ} {v used : ℕ} (seen : Seen words there masks rest v used) where
   pub seen_all : ((k : ℕ) → k < 512 → member rest k ≡ false) → InUse words there masks v used
-  seen_all none = record { bits = λ m. sym (or-false (bit used m)) ∙ ap (λ (b : Bool). bit used m || b) (sym (none_left m)) ∙ seen.bits m; small = seen.small }
+  seen_all none = record { bits = λ m. sym (or-false (bit used m)) ∙ ap (λ (b : Bool). bit used m || b) (sym (none_left m)) ∙ seen.bits m }
     where
       none_left : (m : ℕ) → any_of (takes words masks v m) (members_of rest) ≡ false
       none_left m = out_any (takes words masks v m) (members_of rest) λ w i.
@@ -82,7 +78,7 @@ module _ {words : Matrix} {there masks rest : List ℕ} {v used : ℕ} (seen : S
     pub met_there : member there u ≡ true
     met_there = and_right (has_edge words v u) (member there u) near
 
-    pub seen_more : {used' : ℕ} → WithMask used (mask_of masks u) used' → Seen words there masks rest' v used'
+    pub seen_more : {used' : ℕ} → ((k : ℕ) → bit used' k ≡ (bit used k || eqb k (mask_of masks u))) → Seen words there masks rest' v used'
     seen_more {used'} more =
         let is-left : u ∈ members_of rest = (in_members rest u).1 (taken.small, met) in
         let left : members_of rest' ≡ without u (members_of rest) = members_out rest rest' u taken.out in
@@ -91,39 +87,14 @@ module _ {words : Matrix} {there masks rest : List ℕ} {v used : ℕ} (seen : S
         = λ m. rw (left, eqb_sym m (mask_of masks u)) (any_without (takes words masks v m) is-left ∙ rw joined) in
         record {
           bits = λ m.
-              rw (more.bits m)
+              rw (more m)
               (or_assoc (bit used m) (eqb m (mask_of masks u)) (any_of (takes words masks v m) (members_of rest'))
               ∙ ap (λ (b : Bool). bit used m || b) (sym (one m))
               ∙ seen.bits m);
-          small = more.small seen.small;
           inside = λ k l e. seen.inside k l (and_left (member rest k) (not (eqb k u)) (sym (taken.out k) ∙ e));
         }
 
 -- ---- the lowest free mask
-
-module _ (K used : ℕ) where
-  pub free_none : ((m : ℕ) → m < K → bit used m ≡ true) → LowestFree K used None
-  free_none all = find_none_up_to (λ m. not (bit used m)) K (λ m l. ap not (all m l))
-
-  pub free_found : (m : ℕ) → Lowest used m → m < K → LowestFree K used (Some m)
-  free_found m lowest l = (find_up_to (λ k. not (bit used k)) K m l (λ k h. ap not (lowest.below k h)) (ap not lowest.clear), lowest.small)
-
-  -- m is not one of the K masks
-  pub free_past : (m : ℕ) → Lowest used m → K ≤ m → LowestFree K used None
-  free_past m lowest l = free_none (λ k h. lowest.below k (omega arith))
-
-  module _ (few : used < 2 ^ 8) where
-    -- all eight bits are set
-    pub free_full : K ≤ 8 → ones used ≡ 8 → LowestFree K used None
-    free_full h e = free_none λ m l.
-        by_test (bit used m) (λ p. p)
-        (λ p. absurd (omega (arith, count_bits 8 used few, count_in 8 (bit used) m (omega arith) p, count_le 8 (λ k. bit used k || eqb k m))))
-
-    pub one_free : (ones used ≡ 8 → ⊥) → (j : ℕ) × (j < 8) × (bit used j ≡ false)
-    one_free d =
-        let le = count_le 8 (bit used) in
-        let count = count_bits 8 used few in
-        count_missing 8 (bit used) (omega arith)
 
 -- the test by words and members is the rules' test
 taken : (words stitches : Matrix) (masks present there : List ℕ) (v m : ℕ) → Same present (members_of there)
@@ -133,18 +104,18 @@ taken words stitches masks present there v m s =
     ∙ any_members (takes words masks v m) present (members_of there) s
 
 -- the lowest free mask, or 0 where none is, is found, and below 8
-found : (K x : ℕ) (o : std.Option ℕ) → LowestFree K x o
-    → (unwrap_or o 0 ≡ found_or 0 (find (λ m. not (bit x m)) (up_to K))) × (unwrap_or o 0 < 8)
-found K x None free = (sym (ap (found_or 0) free), omega arith)
-found K x (Some m) free = (sym (ap (found_or 0) free.0), free.1)
+found : (K x : ℕ) (o : std.Option ℕ) → LowestFree K x o → unwrap_or o 0 ≡ found_or 0 (find (λ m. not (bit x m)) (up_to K))
+found K x None all = sym (ap (found_or 0) (find_none_up_to (λ m. not (bit x m)) K (λ m l. ap not (all m l))))
+found K x (Some m) lowest = sym (ap (found_or 0) (find_up_to (λ k. not (bit x k)) K m lowest.small (λ k h. ap not (lowest.below k h)) (ap not lowest.clear)))
 
-pub free_small : (K x : ℕ) (o : std.Option ℕ) → LowestFree K x o → unwrap_or o 0 < 8
-free_small K x o free = (found K x o free).1
+pub free_small : (K x : ℕ) (o : std.Option ℕ) → K ≤ 8 → LowestFree K x o → unwrap_or o 0 < 8
+free_small K x None few all = omega arith
+free_small K x (Some m) few lowest = omega (arith, lowest.small)
 
 pub free_in_use : (K : ℕ) (words : Matrix) (there masks : List ℕ) (v x : ℕ) (o : std.Option ℕ) → InUse words there masks v x → LowestFree K x o
     → (stitches : Matrix) → unwrap_or o 0 ≡ free_mask K (word_graph words stitches) (record { there = members_of there; masks = masks }) v
 free_in_use K words there masks v x o used free stitches =
-    (found K x o free).0
+    found K x o free
     ∙ ap (found_or 0) (find_same (λ m. not (bit x m)) _ (up_to K)
     (λ m i. ap not (used.bits m ∙ sym (taken words stitches masks (members_of there) there v m (λ u. (λ n. n, λ n. n))))))
 

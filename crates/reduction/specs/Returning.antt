@@ -1,12 +1,11 @@
 -- What putting back asks and gives: the masks in use next to a vertex, a bit to a mask, and the mask that a vertex returns with.
 -- Assumes nothing: these are definitions.
-use Rattle.std.specs.Prelude.{Bool, true, not, ◌&&◌, List, ◌≡◌, ℕ, ◌<◌, ◌^◌, eqb, length, get_or, Option, None, Some, MatchOption}
+use Rattle.std.specs.Prelude.{Bool, true, ◌&&◌, List, ◌≡◌, ℕ, ◌<◌, eqb, length, get_or, Option, None, Some}
 use Rattle.std.specs.List.{All}
-use Rattle.std.proofs.Math.Option.{none, some}
 use Rattle.bitset.specs.Bits.{bit, member}
 use Rattle.bitset.specs.Edges.{has_edge}
 use Rattle.bitset.specs.declared.matrix.Matrix.{Matrix}
-use Rattle.rules.specs.Basics.{up_to, any_of, find}
+use Rattle.rules.specs.Basics.{any_of}
 use Rattle.rules.specs.Edges.{Graph}
 use Rattle.rules.specs.Score.{mask_of}
 use Rattle.rules.specs.Decomposition.{free_mask, put_back_all}
@@ -22,13 +21,6 @@ takes words masks v m u = has_edge words v u && eqb (mask_of masks u) m
 -- bit m of x is set exactly where a member joined to v has mask m
 pub record InUse (words : Matrix) (there masks : List ℕ) (v x : ℕ) : Type 0 where
   pub bits : (m : ℕ) → bit x m ≡ any_of (takes words masks v m) (members_of there)
-  pub small : x < 2 ^ 8
-
--- o is the lowest of K masks whose bit in x is clear, or None where none is
-abbrev pub LowestFree : ℕ → ℕ → Option ℕ → Type 0
-LowestFree K x o =
-    let free = find (λ m. not (bit x m)) (up_to K) in
-    MatchOption o (free ≡ none) (λ r. (free ≡ some r) × (r < 8))
 
 -- the mask that a removal's vertex returns with: its neighbour's, or else the lowest free one
 abbrev pub mask_back : ℕ → Graph → List ℕ → List ℕ → ℕ → Option ℕ → ℕ

@@ -1,10 +1,11 @@
 // Putting back: the removed vertices return in reverse order. One that went by (A) takes the lowest mask that no conflict
 // neighbour there has, and one that went by (B) its stitch neighbour's mask.
-ghost use Rattle.std.specs.Prelude.{◌<◌, ◌≤◌, ◌^◌};
-ghost use Rattle.reduction.specs.Returning.{InUse, LowestFree, ReturnsWith, Masked, HasPlace, Placeable, PutBack};
+ghost use Rattle.std.specs.Prelude.{◌<◌, ◌≤◌};
+ghost use Rattle.bitset.specs.Bits.{LowestFree};
+ghost use Rattle.reduction.specs.Returning.{InUse, ReturnsWith, Masked, HasPlace, Placeable, PutBack};
 
 use crate::peeling::Removal;
-use bitset::{BitSet, Matrix};
+use bitset::{BitSet, MaskSet, Matrix};
 
 // What masks are handed back by: how many there are, and the conflicts. Who is there and the masks change with each vertex, so they are handed on beside it.
 #[derive(Clone, Copy)]
@@ -15,29 +16,25 @@ struct Returning<'a> {
 }
 
 impl Returning<'_> {
-    // The masks of v's conflict neighbours that are there, a bit to a mask. Only neighbours are visited.
-    fn masks_near(&self, v: usize, there: &BitSet, res: &[u8]) -> u32
+    // The masks of v's conflict neighbours that are there. Only neighbours are visited.
+    fn masks_near(&self, v: usize, there: &BitSet, res: &[u8]) -> MaskSet
         requires v_bound { v < 512 }
         requires masked { Masked there.now res.now }
         ensures { InUse self.now.conflicts.now there.now res.now v result }
     {
-        let mut used = 0;
+        let mut used = MaskSet::empty();
         for u in self.conflicts.neighbours_in(v, there).members() {
-            used = bitset::with_mask(used, res[u]);
+            used.put(res[u]);
         }
         used
     }
 
-    // The lowest free mask, if one is free. There are at most eight masks, so eight in use leave none.
-    fn free_mask(&self, used: u32) -> Option<u8>
-        requires { used < 2 ^ 8 }
-        ensures { LowestFree self.now.masks used result }
+    // The lowest of the masks that is not in use, if one is not.
+    fn free_mask(&self, used: &MaskSet) -> Option<u8>
+        ensures { LowestFree self.now.masks used.now result }
     {
-        if u32::count_ones(used) == 8 {
-            return None;
-        }
-        let m = bitset::lowest_free(used);
-        if m < self.masks { Some(m as u8) } else { None }
+        let m = used.lowest_free()?;
+        (u32::from(m) < self.masks).then_some(m)
     }
 
     // The mask that a vertex returns with. The rules give mask 0 where none is free.
@@ -50,7 +47,7 @@ impl Returning<'_> {
             Some(u) => res[u],
             None => {
                 let used = self.masks_near(removal.vertex, there, res);
-                self.free_mask(used).unwrap_or(0)
+                self.free_mask(&used).unwrap_or(0)
             }
         }
     }

@@ -6,7 +6,7 @@ pub returns-in-None : goal.returns-in-None
 returns-in-None c =
     record {
       mask = λ stitches. rw (c.in-None.is, c.unwrap_or.ensures) (free_in_use _ _ _ _ _ _ _ c.masks_near-used.ensures c.free_mask.ensures stitches);
-      small = rw c.unwrap_or.ensures (free_small _ _ _ c.free_mask.ensures);
+      small = rw c.unwrap_or.ensures (free_small _ _ _ c.args.self.now.few c.free_mask.ensures);
     }
 
 pub returns-in-Some : goal.returns-in-Some
