@@ -46,12 +46,13 @@ impl Peeling<'_> {
         }
     }
 
-    // The lowest vertex that may go. The rules give this search its form: a loop over the vertices there that hands out the one found.
+    // The lowest vertex that may go. The rules give this search its form: a loop over the numbers 0 to 511, which passes those
+    // that are not there and hands out the one found.
     fn lowest_to_go(&self, there: &BitSet) -> Option<usize>
         ensures { LowestToGo self.now.masks (word_graph self.now.edges.now.conflicts self.now.edges.now.stitches) (fixed_at self.now.fixed.now) there.now result }
     {
         let mut i = 0;
-        let found = loop {
+        loop {
             if i == 512 {
                 break None;
             }
@@ -59,8 +60,7 @@ impl Peeling<'_> {
                 break Some(i);
             }
             i += 1;
-        };
-        found
+        }
     }
 }
 
