@@ -1,18 +1,16 @@
 -- Mask lines: a line that was read is the line of its number, and lines that were read one after the other are those of all their numbers. Assumes nothing.
 use mathlib.Core.List.{List, [], ◌∷◌, ◌++◌, map, append-nil, append_assoc, map-append}
-use mathlib.Core.Logic.{⊎_elim}
 use mathlib.Core.Option.{some}
 use mathlib.Core.Path.{◌≡◌, refl, sym, ap, ap₂, ◌∙◌}
-use Prim.Native.Nat.{ℕ, ◌+◌, ◌≤◌, ◌<◌, min}
-use native.Mathlib.Numerals.{add-one}
+use Prim.Native.Nat.{ℕ, ◌+◌, ◌<◌, min}
 use native.Mathlib.Omega.{arith}
 use lib.Dec.{leb}
-use lib.ListN.{length, get_or, take, set, length-append, length-set, length-map}
-use lib.Seq.{take-nil, take_all, take-append-le, take-suc-set, set_out}
+use lib.ListN.{length, get_or, length-append, length-take, length-map}
+use lib.Seq.{take-nil, take_all, take-append-le}
 use borrow.Author.Tests.{leb-true, leb-false, lt-leb}
 use Rattle.rules.specs.Lines.{ascii, line, line_of}
 use Rattle.rules.specs.ResultText.{mask_line, mask_lines}
-use Rattle.rules.proofs.Tests.{by_test, lt_or_ge}
+use Rattle.rules.proofs.Tests.{by_test}
 use Rattle.numerals.specs.Numerals.{cap}
 use Rattle.lines.specs.ReadLines.{line_read}
 use Rattle.lines.proofs.GoodLines.{good_line}
@@ -57,73 +55,70 @@ unfolding mask_lines
 lines_snoc [] n = append-nil (mask_line n)
 lines_snoc (m ∷ ns) n = ap (λ (l : List ℕ). mask_line m ++ l) (lines_snoc ns n) ∙ sym (append_assoc (mask_line m) (mask_lines ns) (mask_line n))
 
--- the numbers of the lines read, whose masks are stored as far as there is room, and the text that is left
-pub record Passed (text masks rest : List ℕ) (count : ℕ) : Type 0 where
+-- the numbers of the lines before this one, whose masks are stored as far as there is room, and the text that is left
+pub record Passed (text masks rest : List ℕ) (line : ℕ) : Type 0 where
   pub numbers : List ℕ
-  pub size : length numbers ≡ count
+  pub place : line ≡ length numbers + 1
   pub split : text ≡ mask_lines numbers ++ rest
-  pub stored : take (min count (length masks)) masks ≡ masks_of (length masks) numbers
+  pub stored : masks ≡ masks_of numbers
 
-pub passed_start : (text masks : List ℕ) → Passed text masks text 0
+pub passed_start : (text : List ℕ) → Passed text [] text 1
 unfolding mask_lines
-passed_start text masks =
-    let none : min 0 (length masks) ≡ 0 = omega arith in
-    record { numbers = []; size = refl; split = refl; stored = rw (none, take-nil (length masks)) }
+passed_start text = record { numbers = []; place = refl; split = refl; stored = sym (take-nil 513) }
 
 -- a list of no length
 empty : (l : List ℕ) → length l ≡ 0 → l ≡ []
 empty [] h = refl
 empty (x ∷ l) h = absurd (omega arith)
 
--- one mask more, in so much room
-module _ (room : ℕ) (masks ns : List ℕ) (n : ℕ) (size : length masks ≡ room) (stored : take (min (length ns) room) masks ≡ masks_of room ns) where
-  abbrev after : List ℕ
-  after = set masks (length ns) (mask_of n)
-
+-- one mask more, if there is room for it
+module _ (masks ns : List ℕ) (n : ℕ) (stored : masks ≡ masks_of ns) where
   mapped : length (map mask_of ns) ≡ length ns
   mapped = length-map ns mask_of
 
-  inside : length ns < room → take (min (length ns + 1) room) after ≡ masks_of room (ns ++ (n ∷ []))
-  inside h =
-      let here : min (length ns) room ≡ length ns = omega arith in
-      let next : min (length ns + 1) room ≡ length ns + 1 = omega arith in
-      let before : take (length ns) masks ≡ map mask_of ns = ap (λ (k : ℕ). take k masks) (sym here) ∙ stored ∙ take_all room (map mask_of ns) (omega (arith, mapped)) in
-      rw (next, add-one, take-suc-set masks (length ns) (mask_of n) (omega arith), before, map-append mask_of ns (n ∷ []))
-      (sym (take_all room (map mask_of ns ++ (mask_of n ∷ [])) (omega (arith, mapped, length-append (map mask_of ns) (mask_of n ∷ [])))))
+  size : length masks ≡ min 513 (length ns)
+  size = ap length stored ∙ length-take 513 (map mask_of ns) ∙ ap (min 513) mapped
 
-  outside : room ≤ length ns → take (min (length ns + 1) room) after ≡ masks_of room (ns ++ (n ∷ []))
-  outside h =
-      let next : min (length ns + 1) room ≡ min (length ns) room = omega arith in
-      rw (next, set_out masks (length ns) (mask_of n) (omega arith), map-append mask_of ns (n ∷ []))
-      (stored ∙ sym (take-append-le room (map mask_of ns) (mask_of n ∷ []) (omega (arith, mapped))))
+  more : length masks < 513 → masks ++ (mask_of n ∷ []) ≡ masks_of (ns ++ (n ∷ []))
+  more h =
+      let few : length ns < 513 = omega (arith, size) in
+      let all : masks ≡ map mask_of ns = stored ∙ take_all 513 (map mask_of ns) (omega (arith, mapped)) in
+      rw (all, map-append mask_of ns (n ∷ []))
+      (sym (take_all 513 (map mask_of ns ++ (mask_of n ∷ [])) (omega (arith, mapped, length-append (map mask_of ns) (mask_of n ∷ [])))))
 
-  more_stored : take (min (length ns + 1) room) after ≡ masks_of room (ns ++ (n ∷ []))
-  more_stored = ⊎_elim inside outside (lt_or_ge (length ns) room)
+  full : length masks ≡ 513 → masks ≡ masks_of (ns ++ (n ∷ []))
+  full h = rw (map-append mask_of ns (n ∷ [])) (stored ∙ sym (take-append-le 513 (map mask_of ns) (mask_of n ∷ []) (omega (arith, mapped, size))))
 
-module _ (text masks rest : List ℕ) (count : ℕ) (p : Passed text masks rest count) where
-  pub passed_on : (mask : ℕ) (after : List ℕ) → MaskRead rest mask after → Passed text (set masks count mask) after (count + 1)
-  passed_on mask after r =
-      let ns = p.numbers in
-      let n = r.number in
-      let stored : take (min (length ns) (length masks)) masks ≡ masks_of (length masks) ns = rw p.size p.stored in
-      record {
-        numbers = ns ++ (n ∷ []);
-        size = length-append ns (n ∷ []) ∙ ap (λ (k : ℕ). k + 1) p.size;
-        split = p.split ∙ ap (λ (l : List ℕ). mask_lines ns ++ l) r.line ∙ sym (append_assoc (mask_lines ns) (mask_line n) after) ∙ ap (λ (l : List ℕ). l ++ after) (sym (lines_snoc ns n));
-        stored = rw length-set (ap₂ (λ (k m : ℕ). take (min (k + 1) (length masks)) (set masks k m)) (sym p.size) r.value ∙ more_stored (length masks) masks ns n refl stored);
-      }
+module _ (text masks rest : List ℕ) (line : ℕ) (p : Passed text masks rest line) where
+  module _ (mask : ℕ) (after : List ℕ) (r : MaskRead rest mask after) where
+    abbrev on : (longer : List ℕ) → longer ≡ masks_of (p.numbers ++ (r.number ∷ [])) → Passed text longer after (line + 1)
+    on longer stored =
+        let ns = p.numbers in
+        let n = r.number in
+        record {
+          numbers = ns ++ (n ∷ []);
+          place = ap (λ (k : ℕ). k + 1) (p.place ∙ sym (length-append ns (n ∷ [])));
+          split = p.split ∙ ap (λ (l : List ℕ). mask_lines ns ++ l) r.line ∙ sym (append_assoc (mask_lines ns) (mask_line n) after) ∙ ap (λ (l : List ℕ). l ++ after) (sym (lines_snoc ns n));
+          stored = stored;
+        }
 
-  pub passed_stop : 0 < length rest → NoMaskLine rest → BadLine text (count + 1)
+    pub passed_on : length masks < 513 → Passed text (masks ++ (mask ∷ [])) after (line + 1)
+    passed_on h = on (masks ++ (mask ∷ [])) (rw r.value (more masks p.numbers r.number p.stored h))
+
+    pub passed_full : length masks ≡ 513 → Passed text masks after (line + 1)
+    passed_full h = on masks (full masks p.numbers r.number p.stored h)
+
+  pub passed_stop : 0 < length rest → NoMaskLine rest → BadLine text line
   passed_stop h bad = record {
     numbers = p.numbers;
     rest = rest;
     lines = p.split;
-    place = ap (λ (k : ℕ). k + 1) (sym p.size);
+    place = p.place;
     more = h;
     bad = bad;
   }
 
-  pub passed_end : length rest ≡ 0 → AllStored text (length masks) (take (min count (length masks)) masks)
+  pub passed_end : length rest ≡ 0 → AllStored text masks
   passed_end h = record {
     numbers = p.numbers;
     lines = p.split ∙ ap (λ (l : List ℕ). mask_lines p.numbers ++ l) (empty rest h) ∙ append-nil (mask_lines p.numbers);

@@ -58,7 +58,7 @@ module _ (limit : ℕ) (small : limit ≤ 8) where
 
 module _ (s : Settings) (ps : List Piece) (ns : List ℕ) (valid : Valid s ps) where
   abbrev masks : List ℕ
-  masks = masks_of 513 ns
+  masks = masks_of ns
 
   few : length ps ≤ 512
   few = (within_facts 0 512 (length ps) (valid_sound s ps valid).count).high
@@ -95,7 +95,7 @@ module _ (s : Settings) (ps : List Piece) (ns : List ℕ) (valid : Valid s ps) w
         let inside : i < length ps = omega (arith, size) in
         mask_at i inside ∙ mask_same s.masks small (get_or ns i 0) (all_pass e i inside)
 
-same_score : (s : Settings) (ps : List Piece) (ns : List ℕ) → score_masks s ps (masks_of 513 ns) ≡ score_masks s ps ns
+same_score : (s : Settings) (ps : List Piece) (ns : List ℕ) → score_masks s ps (masks_of ns) ≡ score_masks s ps ns
 unfolding score_masks
 same_score s ps ns =
     then_same (judge_layer s ps) λ _ valid.
@@ -107,8 +107,8 @@ same_score s ps ns =
     ap (λ (ms : List ℕ). and_then (ask_each (λ i. ask (fits_unit (unit_of s ps) (length ps) ms i) 12 (Place.Piece i)) (length ps)) λ _. done (record { score = score_of s.weight (graph_of s ps) ms (length ps); tested = pairs_of (length ps) }))
     (as_numbers s ps ns valid all below)))
 
--- masks that were stored from a text of mask lines, in room for 513
-pub scored_numbers : (layer text list : List ℕ) (answer : Result Scoring Refused) → AllStored text 513 list
+-- masks that were stored from a text of mask lines
+pub scored_numbers : (layer text list : List ℕ) (answer : Result Scoring Refused) → AllStored text list
     → answer_of answer ≡ score_text layer list → ScoreOfNumbers layer text answer
 scored_numbers layer text list answer a e =
     let ns = a.numbers in

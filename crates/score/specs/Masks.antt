@@ -8,9 +8,9 @@ use Rattle.rules.specs.ResultText.{mask_line, mask_lines}
 abbrev pub mask_of : ℕ → ℕ
 mask_of n = cond (leb n 255) n 254
 
--- the masks that numbers are handed on as, as many as there is room for
-abbrev pub masks_of : ℕ → List ℕ → List ℕ
-masks_of room numbers = take room (map mask_of numbers)
+-- the masks that numbers are handed on as, the first 513
+abbrev pub masks_of : List ℕ → List ℕ
+masks_of numbers = take 513 (map mask_of numbers)
 
 -- ---- A line
 
@@ -25,11 +25,11 @@ NoMaskLine text = line_of (ascii "mask=") 1 text ≡ none
 
 -- ---- All lines
 
--- the text is the numbers' mask lines, and these are their masks, as many as there is room for
-pub record AllStored (text : List ℕ) (room : ℕ) (masks : List ℕ) : Type 0 where
+-- the text is the numbers' mask lines, and these are their masks, the first 513
+pub record AllStored (text masks : List ℕ) : Type 0 where
   pub numbers : List ℕ
   pub lines : text ≡ mask_lines numbers
-  pub stored : masks ≡ masks_of room numbers
+  pub stored : masks ≡ masks_of numbers
 
 -- after the mask lines of some numbers the text goes on, with what is no mask line
 pub record BadLine (text : List ℕ) (line : ℕ) : Type 0 where

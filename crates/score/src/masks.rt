@@ -1,7 +1,8 @@
 // The masks of a text that is made of mask lines, as in a result text (RULES 10).
-ghost use Rattle.std.specs.Prelude.{◌≡◌, length, set, MatchOption, MatchResult};
+ghost use Rattle.std.specs.Prelude.{◌≡◌, MatchOption, MatchResult};
 ghost use Rattle.score.specs.Masks.{mask_of, MaskRead, NoMaskLine, AllStored, BadLine};
 
+use arrayvec::ArrayVec;
 use std::fmt;
 use std::fmt::Display;
 
@@ -21,15 +22,6 @@ fn split_mask(text: &[u8]) -> Option<(u8, &[u8])>
     Some((mask_of(line.values[0]), line.rest))
 }
 
-// Stores mask i, if there is room for it. Not by `get_mut`: of a list in which that finds nothing, nothing shows that it stays.
-fn put_mask(masks: &mut [u8], i: usize, mask: u8)
-    ensures { masks.new ≡ set masks.old i mask }
-{
-    if i < masks.len() {
-        masks[i] = mask;
-    }
-}
-
 // The first line, from 1, that is no mask line.
 #[derive(Clone, Copy, Debug, PartialEq, Eq)]
 pub struct LineError {
@@ -46,19 +38,22 @@ impl Display for LineError {
     }
 }
 
-// Stores the masks at the front of the list, and answers that part of it. Lines for which there is no room are judged for their form alone. A text
-// may have more lines than the `Reader` of `lines` counts, and an iterator over them would hand on masks or a bad line, whose number is counted all
-// the same. What stands behind the masks is free: of a list from which the answer borrows no clause says what it becomes.
-pub fn read_masks<'a>(text: &[u8], masks: &'a mut [u8]) -> Result<&'a [u8], LineError>
-    ensures { MatchResult result (λ stored. AllStored text.now (length masks.old) stored.now) (λ bad. BadLine text.now bad.line) }
+// The masks of the text's lines, as many as there is room for: one more than any layer has pieces, and question 7 refuses so many. Lines for which there
+// is no room are judged for their form alone. A text may have more lines than the `Reader` of `lines` counts, and an iterator over them would hand on
+// masks or a bad line, whose number is counted all the same.
+pub fn read_masks(text: &[u8]) -> Result<ArrayVec<u8, 513>, LineError>
+    ensures { MatchResult result (λ masks. AllStored text.now masks.items) (λ bad. BadLine text.now bad.line) }
 {
+    let mut masks = ArrayVec::new();
     let mut rest = text;
-    let mut count = 0;
+    let mut line = 1;
     while !rest.is_empty() {
-        let (mask, after) = split_mask(rest).ok_or(LineError { line: count + 1 })?;
-        put_mask(masks, count, mask);
+        let (mask, after) = split_mask(rest).ok_or(LineError { line })?;
+        if !masks.is_full() {
+            masks.push(mask);
+        }
         rest = after;
-        count += 1;
+        line += 1;
     }
-    Ok(&masks[..count.min(masks.len())])
+    Ok(masks)
 }

@@ -39,12 +39,10 @@ impl From<Refused> for Unscored {
     }
 }
 
-// The form of the mask lines comes first: if one is bad, the layer is not looked at. There is room for one mask more than any layer
-// has pieces, and question 7 refuses so many.
+// The form of the mask lines comes first: if one is bad, the layer is not looked at.
 pub fn score_texts(layer: &[u8], text: &[u8]) -> Result<Scoring, Unscored>
     ensures { TextsScored layer.now text.now result }
 {
-    let mut list = [0u8; 513];
-    let masks = read_masks(text, &mut list)?;
-    Ok(score_layer(layer, masks)?)
+    let masks = read_masks(text)?;
+    Ok(score_layer(layer, &masks)?)
 }

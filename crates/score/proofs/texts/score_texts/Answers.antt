@@ -6,7 +6,7 @@ use Rattle.score.proofs.texts.score_texts.Goals as goal
 pub returns-in_err-score_layer : goal.returns-in_err-score_layer
 returns-in_err-score_layer c =
     let p = err_from_is_err_and c.from_residual-in_err-score_layer.result c.from_residual-in_err-score_layer.ensures.1 in
-    rw (p.1, p.2) (scored_numbers _ _ _ _ c.in_ok-masks.ensures c.in_err-score_layer.ensures)
+    rw (p.1, p.2) (scored_numbers _ _ c.deref.result.now _ (rw c.deref.ensures.0 c.in_ok-masks.ensures) c.in_err-score_layer.ensures)
 
 pub returns : goal.returns
-returns c = scored_numbers _ _ _ _ c.in_ok-masks.ensures c.in_ok-score_layer.ensures
+returns c = scored_numbers _ _ c.deref.result.now _ (rw c.deref.ensures.0 c.in_ok-masks.ensures) c.in_ok-score_layer.ensures
