@@ -4,7 +4,7 @@ ghost use Rattle.std.specs.Prelude.{◌≡◌, ◌+◌, ◌*◌, ◌≤◌, leng
 ghost use Rattle.rules.specs.Stream.{is_rectangle, point_at};
 ghost use Rattle.gds_data.specs.Rectangles.{word_point, corner_piece};
 
-use crate::words::word32;
+use byteorder::{BigEndian, ByteOrder};
 use rules::Piece;
 
 #[derive(Clone, Copy, PartialEq, Eq, Debug)]
@@ -14,13 +14,14 @@ struct Point {
 }
 
 // The point with this number, from 0.
+#[tactic(auto, using(crate::proofs::WordLaws::word_read))]
 fn point_at(bytes: &[u8], i: usize) -> Point
     requires { 8 * i + 8 ≤ length bytes.now }
     ensures { result ≡ word_point bytes.now i }
 {
     Point {
-        x: word32(bytes, 8 * i),
-        y: word32(bytes, 8 * i + 4),
+        x: BigEndian::read_u32(&bytes[8 * i..]),
+        y: BigEndian::read_u32(&bytes[8 * i + 4..]),
     }
 }
 
@@ -50,12 +51,11 @@ pub fn piece_from(bytes: &[u8], shape: u32) -> Piece
 {
     let a = point_at(bytes, 0);
     let c = point_at(bytes, 2);
-    Piece {
+    Piece::from([
         shape,
-        x1: a.x.min(c.x),
-        y1: a.y.min(c.y),
-        x2: a.x.max(c.x),
-        y2: a.y.max(c.y),
-        fixed: Piece::UNSET,
-    }
+        a.x.min(c.x),
+        a.y.min(c.y),
+        a.x.max(c.x),
+        a.y.max(c.y),
+    ])
 }

@@ -5,7 +5,8 @@ ghost use Rattle.gds_records.specs.Kinds.{due_of};
 ghost use Rattle.gds_records.specs.Records.{Room, Due, RecordTold};
 
 use crate::kinds::Kind;
-use gds_data::{is_nanometre, is_rectangle, is_shape, word16};
+use byteorder::{BigEndian, ByteOrder};
+use gds_data::{is_nanometre, is_rectangle, is_shape};
 use rules::{Place, Refusal, Refused};
 
 // The data of a record, and the bytes after it.
@@ -50,7 +51,7 @@ fn is_right(bytes: &[u8], kind: Kind) -> bool
     match kind {
         Kind::Units => is_nanometre(bytes),
         Kind::Xy => is_rectangle(bytes),
-        Kind::Propattr => word16(bytes, 0) == 1,
+        Kind::Propattr => BigEndian::read_u16(bytes) == 1,
         Kind::Propvalue => is_shape(bytes),
         _ => true,
     }
