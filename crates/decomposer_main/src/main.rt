@@ -64,14 +64,7 @@ impl Draws {
     fn square(&mut self, shape: u32) -> Piece {
         let x1 = self.coordinate();
         let y1 = self.coordinate();
-        Piece {
-            shape,
-            x1,
-            y1,
-            x2: x1 + 20,
-            y2: y1 + 20,
-            fixed: Piece::UNSET,
-        }
+        Piece::from([shape, x1, y1, x1 + 20, y1 + 20])
     }
 }
 
