@@ -1,4 +1,4 @@
-// The five-piece library, as document 02 calls it: the least number of conflicts of every conflict graph on five pieces with three masks, in
+// The five-piece library (RULES 19): the least number of conflicts of every conflict graph on five pieces with three masks, in
 // a table. The bound of a component's search stands on it.
 #![tactic(auto)]
 
@@ -6,7 +6,7 @@ ghost use Rattle.std.specs.Prelude.{◌≡◌, ◌<◌};
 ghost use Rattle.rules.specs.Library.{entry_of};
 ghost use Rattle.theory.proofs.Table.{least_digits};
 
-// The entries as digits, by index. The program `library_table` computes them and prints these lines.
+// The entries by index. They are digits, as the program `library_table` prints what it computes, and as the proof compares them, all at once.
 const ENTRIES: [u8; 1024] = *b"\
     0000000000000000000000000000000000000000000000000000000000000000\
     0000000000000000000000000000000000000000000000000000000000000000\
