@@ -1,5 +1,5 @@
 // The search of the core (RULES 5, 6, 17 and 19): one component after the other, in the order of their lowest units, within one budget. Components
-// are found on the edges of units; costs come from the edges of pieces. The decomposition stands on this crate.
+// are found on the edges of units; costs come from the edges of pieces. The decomposition stands on this crate, and so does `stages`.
 #![tactic(auto)]
 
 ghost use Rattle.std.specs.Prelude.{length};

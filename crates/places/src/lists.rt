@@ -1,5 +1,6 @@
 // The lists of earlier neighbours. The places are places of units, and a neighbour is entered once for each edge between pieces of the two units.
-// No two pieces have edges of both kinds, so there is an entry at most for each of the 130,816 pairs of pieces.
+// No two pieces have edges of both kinds, so there is an entry at most for each of the 130,816 pairs of pieces. The room is larger, since no proof
+// needs it to be exact: the law of counting (`room_left` in proofs/Counting) bounds the entries by half of 512 * 512, and 131,584 is 512 more.
 ghost use Rattle.std.specs.Prelude.{[], ◌≡◌, ℕ, ◌+◌, ◌*◌, ◌≤◌, ◌<◌, length, get_or};
 ghost use Rattle.adjacency.specs.UnitGraph.{unit_at};
 ghost use Rattle.places.specs.Local.{conflicts_at, stitches_at, Earlier};
@@ -14,7 +15,8 @@ use bitset::BitSet;
 use std::marker::Model;
 
 // The earlier neighbours of each place. The entries are in parts: those of place k in conflict are part 2 k, and its stitch neighbours part 2 k + 1.
-// It is large, so it is made once, and lent.
+// No heap is used, and a list for each part would need room for the most entries 1,024 times: so all lie in one array, and `starts` has where each
+// part begins. It is large, so it is made once, and lent.
 #[derive(Drop)]
 pub struct Lists {
     starts: ArrayVec<u32, 1025>,
@@ -67,8 +69,9 @@ impl Lists {
         part(self.starts.as_slice(), self.entries.as_slice(), 2 * k + 1)
     }
 
-    // Lays out the places, whose units are those of `order`. A unit's pieces are those that `units` gives it. Inlined, its sets would stand on the
-    // stack while the search goes from place to place.
+    // Lays out the places, whose units are those of `order`. A unit's pieces are those that `units` gives it. In which order the entries of a list
+    // stand is left open, as a cost only counts them. Edges and units come as two, since the graph of units (`core_search::UnitGraph`) stands above
+    // this crate. Inlined, the sets would stand on the stack while the search goes from place to place.
     #[inline(never)]
     pub fn lay_out(&mut self, edges: &EdgeSets, units: &[u16], order: &[u16])
         requires size_bound { (length order.now ≤ 512) × (length units.now ≤ 512) }

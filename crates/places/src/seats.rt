@@ -4,7 +4,8 @@ ghost use Rattle.std.specs.Prelude.{◌≡◌, length};
 use arrayvec::ArrayVec;
 use bitset::{BitSet, Matrix};
 
-// The pieces that have come in, and their places.
+// The pieces that have come in, and their places. They are a set, and not an `Option` for each piece, since a row of the words is cut with it:
+// so only the neighbours that have come in are visited.
 #[derive(Drop)]
 pub(crate) struct Seats {
     there: BitSet,

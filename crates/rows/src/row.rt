@@ -44,7 +44,7 @@ fn drop_stitches(sums: &mut [u32; 8], neighbours: &[u16], before: &[u8])
 }
 
 // What each of eight masks adds at a place, where the places before it have the masks of `before`. The search asks this once a step, and a call
-// that is not inlined there makes a step a sixth slower.
+// that is not inlined there makes a step a sixth slower. That masks are below 8 is asked of a plain list, since the walk writes its masks one at a time.
 #[inline]
 pub fn added_row(lists: &Lists, table: &Table, before: &[u8]) -> [u32; 8]
     requires place { length before.now < length lists.now }

@@ -1,5 +1,5 @@
 // The search over the places of a component (document 01: the walk), by two functions that call each other, one for a place and one for its
-// masks. What a search does not change stands in a problem and what it changes in a walk, so that a step passes and returns few numbers.
+// masks. What a search does not change stands in a problem, and what it changes in a walk; the numbers of a step are handed on by value.
 ghost use Rattle.std.specs.Prelude.{false, ◌≡◌, ◌≤◌, ◌<◌, length};
 ghost use Rattle.search.specs.Branch.{Ready, RowOf, Placed, Masked, tried_in, has_ended};
 

@@ -1,4 +1,4 @@
-// The search of one component, from its first assignment on.
+// The search of one component, from its first assignment on (RULES 6).
 ghost use Rattle.search.specs.Component.{Posed, Searched};
 
 use crate::branch::Problem;
@@ -8,7 +8,8 @@ use first_assignment::{first_assignment, has_fixed};
 use places::Lists;
 use rows::Table;
 
-// `fixed` has the fixed masks of the places, and `end` the cost at which the search ends, if there is one (RULES 19).
+// Searches the places of a component from its first assignment on, answers the best masks found, and moves `progress` on by the steps taken. `fixed`
+// has the fixed masks of the places, and `end` the cost at which the search ends, if there is one (RULES 19).
 pub fn search_component(
     lists: &Lists,
     fixed: &[u8],

@@ -23,7 +23,8 @@ impl From<Settings> for Limits {
     }
 }
 
-// How far the searches of a run have come: the steps that are left of the budget, and whether a step was due when none was.
+// How far the searches of a run have come: the steps that are left of the budget, and whether a step was due when none was. They are two fields, as a
+// run may use its last step and not be stopped (RULES 6).
 #[derive(Clone, Copy)]
 pub struct Progress {
     pub left: u64,
