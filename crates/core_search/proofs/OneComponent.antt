@@ -48,12 +48,16 @@ rising_places (x ∷ xs) r (suc i) (suc j) h l = rising_places xs r.1 i j (omega
 pub order_rises : (component order : List ℕ) → order ≡ members_of component → (i j : ℕ) → i < j → j < length order → get_or order i 0 < get_or order j 0
 order_rises component order is = rising_places order (rw is (members_rising component))
 
+-- the list of the places' fixed masks is as long as their order
+pub own_size : (fixed order : List ℕ) {own : List ℕ} → own ≡ map (fixed_at fixed) order → length own ≡ length order
+own_size fixed order e = ap length e ∙ length-map order (fixed_at fixed)
+
 module _ {conflictWords stitchWords : Matrix} {units fixed component order own result : List ℕ} {places : List Neighbours} {l : Limits} {p : Progress} (end : Option ℕ)
     (given : Given fixed component l p result) (is : order ≡ members_of component) (few : length order ≤ 512)
     (laid : LaidOut conflictWords stitchWords units order places) (local : own ≡ map (fixed_at fixed) order)
     (early : end ≡ end_of (library_bound l.masks l.weight (list_graph places) (fixed_at own) (length own))) where
   size : length own ≡ length order
-  size = ap length local ∙ length-map order (fixed_at fixed)
+  size = own_size fixed order local
 
   vertices : length own ≡ length (members_of component)
   vertices = size ∙ ap length is
@@ -70,13 +74,11 @@ module _ {conflictWords stitchWords : Matrix} {units fixed component order own r
   below : FixedLow masks_fixed (length own) l.masks
   below i h = local_below (members_of component) (λ u m. let inside = (in_members component u).0 m in given.fixed_low u inside.0 inside.1) i (omega (arith, vertices))
 
-  pub posed : Posed places own l p
+  pub posed : Posed own l p
   posed = record {
-    few = omega (arith, size);
     some = given.some;
     masks = given.masks;
     weight = given.weight;
-    laid = omega (arith, size, laid.size);
     fixed_low = subst⁻¹ (λ (f : ℕ → ℕ). FixedLow f (length own) l.masks) places_fixed below;
     afford = given.afford;
   }

@@ -13,7 +13,7 @@ use adjacency::EdgeSets;
 use bitset::BitSet;
 use early_end::library_end;
 pub use graph::UnitGraph;
-use places::Lists;
+use places::{Lists, Local};
 use search::search_component;
 pub use search::{Limits, Progress};
 
@@ -35,8 +35,9 @@ fn search_one(
     let own = places::local_fixed(order, fixed);
     let own = own.as_slice();
     lists.lay_out(graph.edges, graph.units, order);
-    let end = library_end(lists, own, limits.masks, limits.weight);
-    let best = search_component(lists, own, limits, end, progress);
+    let local = Local { lists, fixed: own };
+    let end = library_end(&local, limits.masks, limits.weight);
+    let best = search_component(&local, limits, end, progress);
     places::put_masks(order, &best.masks[..order.len()], res);
 }
 

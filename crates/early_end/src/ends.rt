@@ -8,7 +8,7 @@ ghost use Rattle.early_end.specs.Ends.{end_of};
 use crate::listed_edges::{all_listed, edge_counts};
 use first_assignment::has_fixed;
 use library::entry;
-use places::Lists;
+use places::Local;
 
 // The number whose binary digits are the counts, the lowest first.
 fn index_of(counts: &[u64; 10]) -> usize
@@ -21,20 +21,19 @@ fn index_of(counts: &[u64; 10]) -> usize
         .fold(0, |index, count| *count + 2 * index) as usize
 }
 
-// The cost at which the search ends, where the library serves the component. `fixed` has the fixed masks of its places.
-pub fn library_end(lists: &Lists, fixed: &[u8], masks: u64, weight: u64) -> Option<u64>
-    requires size_bound { (length fixed.now ≤ 512) × (weight ≤ 1000) }
-    requires places { length fixed.now ≤ length lists.now }
-    ensures { result ≡ end_of (library_bound masks weight (list_graph lists.now) (fixed_at fixed.now) (length fixed.now)) }
+// The cost at which the search ends, where the library serves the component.
+pub fn library_end(local: &Local, masks: u64, weight: u64) -> Option<u64>
+    requires weight_bound { weight ≤ 1000 }
+    ensures { result ≡ end_of (library_bound masks weight (list_graph local.now.lists.now) (fixed_at local.now.fixed.now) (length local.now.fixed.now)) }
 {
-    let size = fixed.len();
+    let size = local.fixed.len();
     if masks != 3 || 5 < size {
         return None;
     }
-    if has_fixed(fixed) || !all_listed(lists, size) {
+    if has_fixed(local.fixed) || !all_listed(local) {
         return None;
     }
-    let counts = edge_counts(lists, size);
+    let counts = edge_counts(local);
     let conflicts = u64::from(entry(index_of(&counts)));
     Some(weight * conflicts)
 }

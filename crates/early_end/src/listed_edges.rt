@@ -1,10 +1,10 @@
 // The edges of a component's places, counted in their lists of earlier neighbours, and whether the library lists them.
-ghost use Rattle.std.specs.Prelude.{not, ◌≡◌, ◌≤◌, ◌<◌, eqb, length};
+ghost use Rattle.std.specs.Prelude.{not, ◌≡◌, ◌<◌, eqb, length};
 ghost use Rattle.rules.specs.Basics.{up_to, any_of, count_of};
 ghost use Rattle.rules.specs.Library.{edges_below, pair_edges, unlisted_at};
 ghost use Rattle.places.specs.Local.{list_graph};
 
-use places::Lists;
+use places::{Lists, Local};
 
 // How many of the neighbours are place u.
 fn times_in(neighbours: &[u16], u: usize) -> u64
@@ -24,24 +24,22 @@ fn conflicts_at(lists: &Lists, u: usize, v: usize) -> u64
     times_in(lists.conflicts_of(v), u)
 }
 
-// The same where v is below `size`, else 0.
-fn edges_at(lists: &Lists, size: usize, u: usize, v: usize) -> u64
-    requires { size ≤ length lists.now }
-    ensures { result ≡ edges_below (list_graph lists.now) size u v }
+// The same where there is a place v, else 0.
+fn edges_at(local: &Local, u: usize, v: usize) -> u64
+    ensures { result ≡ edges_below (list_graph local.now.lists.now) (length local.now.fixed.now) u v }
 {
-    if v < size {
-        conflicts_at(lists, u, v)
+    if v < local.fixed.len() {
+        conflicts_at(local.lists, u, v)
     } else {
         0
     }
 }
 
 // The edges of the ten pairs of five places, in the order of the library's bits.
-pub fn edge_counts(lists: &Lists, size: usize) -> [u64; 10]
-    requires { size ≤ length lists.now }
-    ensures { result ≡ pair_edges (list_graph lists.now) size }
+pub fn edge_counts(local: &Local) -> [u64; 10]
+    ensures { result ≡ pair_edges (list_graph local.now.lists.now) (length local.now.fixed.now) }
 {
-    let at = |u: usize, v: usize| edges_at(lists, size, u, v);
+    let at = |u: usize, v: usize| edges_at(local, u, v);
     [
         at(0, 1),
         at(0, 2),
@@ -65,9 +63,8 @@ fn place_listed(lists: &Lists, v: usize) -> bool
 }
 
 // Whether the library lists the edges of all places.
-pub fn all_listed(lists: &Lists, size: usize) -> bool
-    requires { size ≤ length lists.now }
-    ensures { result ≡ not (any_of (unlisted_at (list_graph lists.now)) (up_to size)) }
+pub fn all_listed(local: &Local) -> bool
+    ensures { result ≡ not (any_of (unlisted_at (list_graph local.now.lists.now)) (up_to (length local.now.fixed.now))) }
 {
-    (0..size).all(|v| place_listed(lists, v))
+    (0..local.fixed.len()).all(|v| place_listed(local.lists, v))
 }

@@ -7,7 +7,7 @@ ghost use Rattle.rules.specs.Search.{cheapest};
 ghost use Rattle.adjacency.specs.UnitGraph.{fixed_at};
 ghost use Rattle.first_assignment.specs.First.{FixedLow, FirstOf};
 
-use places::Lists;
+use places::Local;
 use rows::{Table, added_row};
 use rules::stated_mask;
 
@@ -37,23 +37,16 @@ pub fn has_fixed(fixed: &[u8]) -> bool
     fixed.iter().any(|mask| stated_mask(*mask).is_some())
 }
 
-// Fills the places, of which `fixed` has the fixed masks, and answers what that costs.
-pub fn first_assignment(
-    lists: &Lists,
-    table: &Table,
-    fixed: &[u8],
-    masks: u64,
-    partial: &mut [u8],
-) -> u64
-    requires size_bound { (length fixed.now ≤ 512) × (1 ≤ masks) × (masks ≤ 8) }
-    requires fixed_low { FixedLow (fixed_at fixed.now) (length fixed.now) masks }
-    requires places { length fixed.now ≤ length lists.now }
-    requires room { length partial.old ≡ length fixed.now }
-    ensures { FirstOf masks table.now lists.now (fixed_at fixed.now) (length fixed.now) partial.new result }
+// Fills the places, and answers what that costs.
+pub fn first_assignment(local: &Local, table: &Table, masks: u64, partial: &mut [u8]) -> u64
+    requires masks_bound { (1 ≤ masks) × (masks ≤ 8) }
+    requires fixed_low { FixedLow (fixed_at local.now.fixed.now) (length local.now.fixed.now) masks }
+    requires room { length partial.old ≡ length local.now.fixed.now }
+    ensures { FirstOf masks table.now local.now.lists.now (fixed_at local.now.fixed.now) (length local.now.fixed.now) partial.new result }
 {
     let mut cost = 0;
-    for (k, own) in fixed.iter().enumerate() {
-        let row = added_row(lists, table, &partial[..k]);
+    for (k, own) in local.fixed.iter().enumerate() {
+        let row = added_row(local.lists, table, &partial[..k]);
         let m = first_mask(&row[..masks as usize], *own);
         partial[k] = m as u8;
         cost += u64::from(row[m]);

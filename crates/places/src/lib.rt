@@ -5,10 +5,12 @@
 
 mod fixed;
 mod lists;
+mod local;
 mod order;
 mod pieces;
 mod seats;
 
 pub use fixed::local_fixed;
 pub use lists::Lists;
+pub use local::Local;
 pub use order::{list_members, put_masks};

@@ -60,7 +60,7 @@ tried_free {K} {u = u} (every e f) h = let n : min (suc u) K ≡ K = omega arith
 -- What is tried from the number x that is read at place p. A fixed mask is one of those that would be tried were the place not fixed.
 module _ {b : Problem} {w : Walk} {p c u left : ℕ} (ready : Ready b w p c u left) (place : p < size_in b) {x : ℕ} (own : x ≡ fixed_in b p) where
   long : length (take p w.partial) ≡ p
-  long = length-take-le p w.partial (omega (arith, ready.at, ready.sound.few, ready.whole))
+  long = length-take-le p w.partial (omega (arith, ready.at, b.local.few, ready.whole))
 
   module _ (d : x ≡ unset → ⊥) where
     fix : is_fixed (fixed_in b) p ≡ true

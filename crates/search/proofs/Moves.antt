@@ -48,7 +48,7 @@ module _ {b : Problem} {w : Walk} {p c u left : ℕ} (ready : Ready b w p c u le
   pub ready_next : (m r : ℕ) → p < size_in b → r ≤ 131_715_584 → m ≤ u → m < b.limits.masks → 1 ≤ left
       → Ready b (with_mask w p m) (p + 1) (c + r) (max u (m + 1)) (left - 1)
   ready_next m r h small l k more =
-      let room : p < length w.partial = omega (arith, ready.whole, ready.sound.few) in
+      let room : p < length w.partial = omega (arith, ready.whole, b.local.few) in
       record {
         sound = ready.sound;
         whole = simp length-set ready.whole;
@@ -177,7 +177,7 @@ module _ {b : Problem} {w : Walk} {p c u left : ℕ} (ready : Ready b w p c u le
 
       entered : state_in b w₁ left₁ ≡ places_from b (suc p) (take p w.partial ++ (m ∷ [])) (c + adds_in b (take p w.partial) m) (step s)
       entered =
-          let stored = take_stored w.partial p m (omega (arith, ready.whole, ready.sound.few)) in
+          let stored = take_stored w.partial p m (omega (arith, ready.whole, b.local.few)) in
           one.searched
           ∙ ap (λ (k : ℕ). places_from b k (take (p + 1) (set w.partial p m)) (c + r) (state_in b w (left - 1))) (add-one p)
           ∙ ap₂ (λ (q : List ℕ) (x : ℕ). places_from b (suc p) q (c + x) (state_in b w (left - 1))) stored adds

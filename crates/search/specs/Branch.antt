@@ -32,14 +32,14 @@ found_in end w c left = record w { incumbent = w.partial; cost = c; ended = cond
 
 -- what mask m adds at the next place
 abbrev pub adds_in : Problem → List ℕ → ℕ → ℕ
-adds_in b = local_added b.table b.lists.now
+adds_in b = local_added b.table b.local.lists.now
 
 -- how many places there are, and their fixed masks
 abbrev pub size_in : Problem → ℕ
-size_in b = length b.fixed.now
+size_in b = length b.local.fixed.now
 
 abbrev pub fixed_in : Problem → ℕ → ℕ
-fixed_in b = fixed_at b.fixed.now
+fixed_in b = fixed_at b.local.fixed.now
 
 -- whether a place is fixed
 abbrev pub any_fixed : Problem → Bool
@@ -69,10 +69,8 @@ pub data Used (K : ℕ) (someFixed : Bool) (q : List ℕ) (u : ℕ) : Type 0 whe
 
 -- A problem that can be searched.
 pub record Sound (b : Problem) : Type 0 where
-  pub few : size_in b ≤ 512
   pub some : 1 ≤ b.limits.masks
   pub masks : b.limits.masks ≤ 8
-  pub places : size_in b ≤ length b.lists.now
   pub fixed_low : FixedLow (fixed_in b) (size_in b) b.limits.masks
 
 -- The masks before place p: they cost c, at most so much for each place, and u are in use. A search that has ended hands on no steps.

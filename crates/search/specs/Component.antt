@@ -21,13 +21,11 @@ search_local places fixed l end p =
 abbrev pub state_after : ℕ → Limits → Progress → Best → State
 state_after n l p best = state (l.budget - p.left) p.stopped best.cost (take n best.masks)
 
--- a local problem, what its search goes by, and the steps left
-pub record Posed (places : List Neighbours) (fixed : List ℕ) (l : Limits) (p : Progress) : Type 0 where
-  pub few : length fixed ≤ 512
+-- the fixed masks of places, what their search goes by, and the steps left
+pub record Posed (fixed : List ℕ) (l : Limits) (p : Progress) : Type 0 where
   pub some : 1 ≤ l.masks
   pub masks : l.masks ≤ 8
   pub weight : l.weight ≤ 1000
-  pub laid : length fixed ≤ length places
   pub fixed_low : FixedLow (fixed_at fixed) (length fixed) l.masks
   pub afford : p.left ≤ l.budget
 

@@ -5,17 +5,15 @@ ghost use Rattle.search.specs.Branch.{Ready, RowOf, Placed, Masked, tried_in, ha
 
 use crate::incumbent::Walk;
 use crate::limits::Limits;
-use places::Lists;
+use places::Local;
 use rows::{Table, added_row};
 use rules::stated_mask;
 
-// The earlier neighbours of the places, the table of the weight, the fixed masks of the places, what the run sets for each search, and the cost at
-// which this one ends, if there is one (RULES 19).
+// The local problem, the table of the weight, what the run sets for each search, and the cost at which this one ends, if there is one (RULES 19).
 #[derive(Drop)]
 pub struct Problem<'a> {
-    pub lists: &'a Lists,
+    pub local: Local<'a>,
     pub table: Table,
-    pub fixed: &'a [u8],
     pub limits: Limits,
     pub end: Option<u64>,
 }
@@ -31,10 +29,10 @@ impl Problem<'_> {
         requires goes_on { has_ended walk.old ≡ false }
         ensures { Placed self.now walk.old walk.new p cost left result }
     {
-        let Some(own) = self.fixed.get(p) else {
+        let Some(own) = self.local.fixed.get(p) else {
             return walk.hold(self.end, cost, left);
         };
-        let row = added_row(self.lists, &self.table, &walk.partial[..p]);
+        let row = added_row(self.local.lists, &self.table, &walk.partial[..p]);
         let masks = self.limits.masks as usize;
         let (first, last) = match stated_mask(*own) {
             Some(mask) => (usize::from(mask), usize::from(mask) + 1),
@@ -59,7 +57,7 @@ impl Problem<'_> {
     ) -> u64
         requires ready { Ready self.now walk.old p cost used left }
         requires row_of { RowOf self.now walk.old p row.now }
-        requires place { p < length self.now.fixed.now }
+        requires place { p < length self.now.local.fixed.now }
         requires order { first ≤ last }
         requires tried { last ≤ tried_in self.now used }
         ensures { Masked self.now walk.old walk.new p cost left first last result }

@@ -5,35 +5,32 @@ use crate::branch::Problem;
 use crate::incumbent::Walk;
 use crate::limits::{Best, Limits, Progress};
 use first_assignment::{first_assignment, has_fixed};
-use places::Lists;
+use places::Local;
 use rows::Table;
 
-// Searches the places of a component from its first assignment on, answers the best masks found, and moves `progress` on by the steps taken. `fixed`
-// has the fixed masks of the places, and `end` the cost at which the search ends, if there is one (RULES 19).
+// Searches the places of a component from its first assignment on, answers the best masks found, and moves `progress` on by the steps taken. `end`
+// is the cost at which the search ends, if there is one (RULES 19).
 pub fn search_component(
-    lists: &Lists,
-    fixed: &[u8],
+    local: &Local,
     limits: Limits,
     end: Option<u64>,
     progress: &mut Progress,
 ) -> Best
-    requires { Posed lists.now fixed.now limits progress.old }
-    ensures { Searched lists.now fixed.now limits end progress.old progress.new result }
+    requires { Posed local.now.fixed.now limits progress.old }
+    ensures { Searched local.now.lists.now local.now.fixed.now limits end progress.old progress.new result }
 {
     let problem = Problem {
-        lists,
+        local: *local,
         table: Table::new(limits.weight),
-        fixed,
         limits,
         end,
     };
     let mut partial = [0u8; 512];
     let cost = first_assignment(
-        lists,
+        local,
         &problem.table,
-        fixed,
         limits.masks,
-        &mut partial[..fixed.len()],
+        &mut partial[..local.fixed.len()],
     );
     if end == Some(cost) {
         return Best {
@@ -48,7 +45,7 @@ pub fn search_component(
         stopped: progress.stopped,
         ended: None,
     };
-    let used = if has_fixed(fixed) {
+    let used = if has_fixed(local.fixed) {
         limits.masks as usize
     } else {
         0

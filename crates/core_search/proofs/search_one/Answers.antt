@@ -6,7 +6,7 @@ use Prim.Native.Nat.{◌≤◌}
 use lib.ListN.{length}
 use Rattle.adjacency.specs.Members.{members_of}
 use Rattle.adjacency.specs.UnitGraph.{fixed_at}
-use Rattle.core_search.proofs.OneComponent.{order_rises, posed, places_there, one_searched}
+use Rattle.core_search.proofs.OneComponent.{order_rises, own_size, posed, places_there, one_searched}
 use Rattle.core_search.proofs.search_one.Goals as goal
 use Rattle.core_search.proofs.search_one.Goals.{After-as_slice-own}
 
@@ -23,6 +23,14 @@ module _ (c : After-as_slice-own) where
 
 pub lay_out-requires-clause-by_index_2 : goal.lay_out-requires-clause-by_index_2
 lay_out-requires-clause-by_index_2 c = order_rises c.args.component.now _ (is (goal.at.lay_out-requires-clause-by_index_2 c).After-as_slice-own)
+
+pub invariant_of-local : goal.invariant_of-local
+invariant_of-local c =
+    let made = (goal.at.invariant_of-local c).After-as_slice-own in
+    record {
+      few = omega (arith, own_size _ _ (own made), few made);
+      laid = omega (arith, own_size _ _ (own made), c.lay_out.ensures.size);
+    }
 
 pub search_component-best-requires : goal.search_component-best-requires
 search_component-best-requires c =

@@ -20,32 +20,32 @@ use Rattle.early_end.proofs.ends.library_end.Goals.{then-has_fixed-via-then-has_
 -- the component
 module _ (start : Start) where
   abbrev graph : Graph
-  graph = list_graph start.args.lists.now
+  graph = list_graph start.args.local.now.lists.now
 
   abbrev size : ℕ
-  size = length start.args.fixed.now
+  size = length start.args.local.now.fixed.now
 
   abbrev fixed : ℕ → ℕ
-  fixed = fixed_at start.args.fixed.now
+  fixed = fixed_at start.args.local.now.fixed.now
 
 -- all tests are passed
 module _ (last : Else-not-all_listed) where
   abbrev graph-here : Graph
-  graph-here = list_graph last.args.lists.now
+  graph-here = list_graph last.args.local.now.lists.now
 
-  all-passed : served last.args.masks graph-here (fixed_at last.args.fixed.now) (length last.args.fixed.now) ≡ true
+  all-passed : served last.args.masks graph-here (fixed_at last.args.local.now.fixed.now) (length last.args.local.now.fixed.now) ≡ true
   all-passed =
-      serves last.args.masks graph-here (fixed_at last.args.fixed.now) (length last.args.fixed.now) (omega arith)
+      serves last.args.masks graph-here (fixed_at last.args.local.now.fixed.now) (length last.args.local.now.fixed.now) (omega arith)
       last.if-size-gt5.false
       (sym last.has_fixed.ensures ∙ last.if-has_fixed.false)
       (passed last.all_listed.result _ last.all_listed.ensures (ap not last.if-not-all_listed.false))
 
-  index-low : index_of graph-here (length last.args.fixed.now) < 1024
-  index-low = index_small graph-here (length last.args.fixed.now) (served_by last.args.masks graph-here (fixed_at last.args.fixed.now) (length last.args.fixed.now) all-passed).simple
+  index-low : index_of graph-here (length last.args.local.now.fixed.now) < 1024
+  index-low = index_small graph-here (length last.args.local.now.fixed.now) (served_by last.args.masks graph-here (fixed_at last.args.local.now.fixed.now) (length last.args.local.now.fixed.now) all-passed).simple
 
 -- the value of the counts
-counted : (c : After-edge_counts-counts) → value_of c.edge_counts-counts.result ≡ index_of (list_graph c.args.lists.now) (length c.args.fixed.now)
-counted c = ap value_of c.edge_counts-counts.ensures ∙ sym (index_as (list_graph c.args.lists.now) (length c.args.fixed.now))
+counted : (c : After-edge_counts-counts) → value_of c.edge_counts-counts.result ≡ index_of (list_graph c.args.local.now.lists.now) (length c.args.local.now.fixed.now)
+counted c = ap value_of c.edge_counts-counts.ensures ∙ sym (index_as (list_graph c.args.local.now.lists.now) (length c.args.local.now.fixed.now))
 
 pub returns-then-masks-ne3 : goal.returns-then-masks-ne3
 returns-then-masks-ne3 c =

@@ -15,27 +15,27 @@ use Rattle.first_assignment.proofs.first.first_assignment.Goals.{After-first_mas
 -- where a mask was picked for a place
 module _ (picked : After-first_mask-m) where
   abbrev byte : ℕ
-  byte = get_or picked.args.fixed.now picked.loop-k.k 0
+  byte = get_or picked.args.local.now.fixed.now picked.loop-k.k 0
 
   -- the byte that was read
-  read : byte ≡ fixed_at picked.args.fixed.now picked.loop-k.k
-  read = default_same picked.args.fixed.now picked.loop-k.k 0 unset (omega arith)
+  read : byte ≡ fixed_at picked.args.local.now.fixed.now picked.loop-k.k
+  read = default_same picked.args.local.now.fixed.now picked.loop-k.k 0 unset (omega arith)
 
   -- the mask by the whole row
   mask : picked.first_mask-m.result ≡ taken byte picked.added_row-row.result picked.args.masks
   mask =
       let eight : length picked.added_row-row.result ≡ 8 = search rules in
       picked.first_mask-m.ensures
-      ∙ ap (λ (m : ℕ). cond (not (eqb byte unset)) byte m) (cheapest_take picked.added_row-row.result picked.args.masks (omega (arith, picked.requires.size_bound.2)))
+      ∙ ap (λ (m : ℕ). cond (not (eqb byte unset)) byte m) (cheapest_take picked.added_row-row.result picked.args.masks (omega (arith, picked.requires.masks_bound.1)))
 
   low : picked.first_mask-m.result < 8
   low =
-      let below = taken_low byte picked.added_row-row.result picked.args.masks picked.requires.size_bound.1
+      let below = taken_low byte picked.added_row-row.result picked.args.masks picked.requires.masks_bound.0
       (λ e. subst⁻¹ (λ (x : ℕ). x < picked.args.masks) read (picked.requires.fixed_low picked.loop-k.k (omega arith) (subst (λ (x : ℕ). not (eqb x unset) ≡ true) read e))) in
-      omega (arith, mask, below, picked.requires.size_bound.2)
+      omega (arith, mask, below, picked.requires.masks_bound.1)
 
 pub loop-k-init : goal.loop-k-init
-loop-k-init c = filled_none c.args.masks c.args.table.now c.args.lists.now (fixed_at c.args.fixed.now) (length c.args.fixed.now) c.args.partial.now c.requires.room
+loop-k-init c = filled_none c.args.masks c.args.table.now c.args.local.now.lists.now (fixed_at c.args.local.now.fixed.now) (length c.args.local.now.fixed.now) c.args.partial.now c.requires.room
 
 pub overflow_cast-partial : goal.overflow_cast-partial
 overflow_cast-partial c = omega (arith, low (goal.at.overflow_cast-partial c).After-first_mask-m)
@@ -51,10 +51,10 @@ loop-k-preserved c =
     let a = c.args in
     let row = c.added_row-row.result in
     let picked = (goal.at.loop-k-preserved c).After-first_mask-m in
-    let next = filled_next a.masks a.table.now a.lists.now (fixed_at a.fixed.now) (length a.fixed.now) (byte picked) row
-    c.requires.size_bound.0 c.requires.size_bound.1 c.requires.size_bound.2 (omega arith) c.requires.fixed_low (read picked) c.added_row-row.ensures.small c.added_row-row.ensures.adds (mask picked) c.loop-k.invariant in
+    let next = filled_next a.masks a.table.now a.local.now.lists.now (fixed_at a.local.now.fixed.now) (length a.local.now.fixed.now) (byte picked) row
+    a.local.now.few c.requires.masks_bound.0 c.requires.masks_bound.1 (omega arith) c.requires.fixed_low (read picked) c.added_row-row.ensures.small c.added_row-row.ensures.adds (mask picked) c.loop-k.invariant in
     rw c.from-cost.ensures next
 
 pub returns : goal.returns
 returns c =
-    filled_all c.args.masks c.args.table.now c.args.lists.now (fixed_at c.args.fixed.now) (length c.args.fixed.now) (omega arith) c.loop-k.invariant
+    filled_all c.args.masks c.args.table.now c.args.local.now.lists.now (fixed_at c.args.local.now.fixed.now) (length c.args.local.now.fixed.now) (omega arith) c.loop-k.invariant

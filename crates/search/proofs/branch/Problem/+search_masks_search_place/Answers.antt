@@ -87,7 +87,7 @@ search_masks-returns t c =
 module _ (t : ℕ) (c : search_place-Joined-stated_mask t) where
   -- the byte that is read
   read : c.in-Some.own.now ≡ fixed_in c.args.self.now c.args.p
-  read = c.in-Some.ensures.lookup.1 ∙ default_same c.args.self.now.fixed.now c.args.p c.in-Some.own.now unset c.in-Some.ensures.lookup.3.0
+  read = c.in-Some.ensures.lookup.1 ∙ default_same c.args.self.now.local.fixed.now c.args.p c.in-Some.own.now unset c.in-Some.ensures.lookup.3.0
 
   masks_tried : let b = c.args.self.now in
       (c.match-stated_mask.first.0 ≤ c.match-stated_mask.first.1)

@@ -5,10 +5,10 @@ use Rattle.search.proofs.Moves.{MasksLeft}
 use Rattle.search.proofs.branch.Problem.+search_masks_search_place.Given as goal
 
 abbrev pub decreases-search_masks : goal.decreases-search_masks
-decreases-search_masks l = (length l.self.now.fixed.now - l.p) * 2
+decreases-search_masks l = (length l.self.now.local.fixed.now - l.p) * 2
 
 abbrev pub decreases-search_place : goal.decreases-search_place
-decreases-search_place l = suc ((length l.self.now.fixed.now - l.p) * 2)
+decreases-search_place l = suc ((length l.self.now.local.fixed.now - l.p) * 2)
 
 abbrev pub invariant-search_masks-loop-mask : goal.invariant-search_masks-loop-mask
 invariant-search_masks-loop-mask l = MasksLeft l.self l.row l.initial.walk l.p l.cost l.used l.left l.first l.last l.walk l.rest l.mask
