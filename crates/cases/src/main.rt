@@ -102,14 +102,7 @@ const BESIDE: [(&str, u32, u32, u32, Edge); 8] = [
 
 fn edges(rt: &impl Print) -> io::Result<()> {
     for (name, shape, x1, y1, wanted) in BESIDE {
-        let beside = Piece {
-            shape,
-            x1,
-            y1,
-            x2: 1000,
-            y2: 1000,
-            fixed: Piece::UNSET,
-        };
+        let beside = Piece::from([shape, x1, y1, 1000, 1000]);
         match edge_call::edge(SETTINGS, SQUARE, beside) {
             Ok(edge) if edge == wanted => println!(rt; "{name}: as stated")?,
             Ok(edge) => println!(rt; "{name}: DIFFERS\n{edge}")?,
