@@ -35,7 +35,8 @@ pub fn is_shape(bytes: &[u8]) -> bool
     read_shape(bytes).is_some()
 }
 
-// The number of bytes that state one.
+// The number of bytes that state one. It reads again what `is_shape` has read: a record is judged before its data are used, and each of the two
+// answers one question.
 #[tactic(auto, unfolding(crate::specs::Shapes::shape_of))]
 pub fn shape_number(bytes: &[u8]) -> u32
     requires { is_numeral (unfilled bytes.now) ≡ true }

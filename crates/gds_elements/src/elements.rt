@@ -31,14 +31,15 @@ fn read_element(records: &mut Records) -> Result<Piece, Refused>
     Ok(piece_from(points, shape))
 }
 
-// How many elements there are, with the pieces of the first 512.
+// How many elements there are, with the pieces of the first 512. The rules count more than they keep, so the count is not the list's length.
 #[derive(Drop)]
 pub struct Elements {
     pub count: usize,
     pub pieces: Pieces,
 }
 
-// The elements from the next record on, as long as there are any. More than 512 are counted, and not stored.
+// The elements from the next record on, as long as there are any. More than 512 are counted, and not stored. After a
+// refusal it is not said how far the reader has come.
 pub fn read_elements(records: &mut Records) -> Result<Elements, Refused>
     ensures elements { ElementsTold records.old.number records.old.rest.now records.new.rest.now result }
     ensures number { IfOk result (λ es. records.new.number ≡ records.old.number + 7 * es.count) }

@@ -1,4 +1,4 @@
-// Numbers to base ten, read (RULES 9). A number of any length has good form, so a value above the cap is read as the cap, which lies
+// Numbers to base ten, read (RULES 9). A number of any length has good form, so a value above the cap, 2^32 - 1, is read as the cap, which lies
 // above every range. The readers of lines and of GDSII data stand on this crate, and the writer of lines on its laws.
 #![tactic(auto)]
 

@@ -42,7 +42,8 @@ fn read_fixed(
     })
 }
 
-// All lines up to the end of the text, with the pieces whose masks they fix.
+// All lines up to the end of the text, with the pieces whose masks they fix. The line's number after them is not said, since nothing follows. The bound
+// on masks is one of one number, as the weight's is at `counting::cost_of`.
 pub fn read_all_fixed(
     reader: &mut Reader,
     masks: u32,
