@@ -2,7 +2,7 @@
 // programs `layer`, `score`, `cases`, `record_cases`, `stages` and `decomposer_main` stand on this crate.
 #![tactic(auto)]
 
-ghost use Rattle.std.specs.Prelude.{◌≤◌, length, IfOk, IfSome};
+ghost use Rattle.std.specs.Prelude.{◌<◌, ◌≤◌, length, IfOk, IfSome};
 
 use bstr::BStr;
 use std::env::{Env, FillError};
@@ -14,6 +14,7 @@ use std::{fs, io, str};
 
 // Reads until the buffer is full, the input ends or a read fails, and answers the part of the buffer that was read: its start. The
 // library's `read_to_end` fills a `Vec` that grows with the input, and its `read_exact` fails where the input ends before the buffer is full.
+// Which bytes are read is the system's to say.
 pub fn read_all<'a>(input: &mut impl Read, buffer: &'a mut [u8]) -> io::Result<&'a [u8]>
     ensures { IfOk result (λ read. length read.now ≤ length buffer.old) }
 {
@@ -68,10 +69,25 @@ pub fn argument_count(rt: &impl Env) -> usize {
         .unwrap_or(usize::MAX)
 }
 
-// Argument i, at the start of the buffer, unless it is missing or longer than the buffer.
+// Argument i, at the start of the buffer, unless it is missing or longer than the buffer. Which bytes it has is the system's to say.
 pub fn argument<'a>(rt: &impl Env, i: usize, buffer: &'a mut [u8]) -> Option<&'a [u8]>
     ensures { IfSome result (λ argument. length argument.now ≤ length buffer.old) }
 {
     let bytes = rt.arg(i, buffer).ok()?;
     Some(&buffer[..bytes])
+}
+
+// Arguments 1 and 2, each at the start of its buffer, where they are all that there are and both are paths: not empty, and not longer than
+// the buffer. Which bytes they have is the system's to say.
+pub fn two_paths<'a>(
+    rt: &impl Env,
+    first: &'a mut [u8],
+    second: &'a mut [u8],
+) -> Option<(&'a [u8], &'a [u8])>
+    ensures first { IfSome result (λ paths. (0 < length paths.0.now) × (length paths.0.now ≤ length first.old)) }
+    ensures second { IfSome result (λ paths. (0 < length paths.1.now) × (length paths.1.now ≤ length second.old)) }
+{
+    let first = argument(rt, 1, first).filter(|path| !path.is_empty())?;
+    let second = argument(rt, 2, second).filter(|path| !path.is_empty())?;
+    (argument_count(rt) == 3).then_some((first, second))
 }

@@ -6,7 +6,7 @@
 
 ghost use Rattle.std.specs.Prelude.{◌≤◌, length, IfOk};
 
-use files::{argument, argument_count, read_all, read_file};
+use files::{argument_count, read_all, read_file, two_paths};
 use rules::Refused;
 use std::io;
 use std::rt::{Env, Files};
@@ -60,17 +60,12 @@ fn say_usage(rt: &impl Eprint) -> io::Result<()> {
     eprintln!(rt; "usage: layer < LAYER-FILE, or layer SETTINGS-FILE STREAM-FILE")
 }
 
-// No path is empty, and none is longer than its buffer.
 fn show_arguments(rt: &(impl Env + Files + Print + Eprint)) -> io::Result<()> {
     let mut first = [0u8; 4_096];
     let mut second = [0u8; 4_096];
-    let settings = argument(rt, 1, &mut first).filter(|path| !path.is_empty());
-    let stream = argument(rt, 2, &mut second).filter(|path| !path.is_empty());
-    match (settings, stream) {
-        (Some(settings), Some(stream)) if argument_count(rt) == 3 => {
-            show_files(rt, settings, stream)
-        }
-        _ => say_usage(rt),
+    match two_paths(rt, &mut first, &mut second) {
+        Some((settings, stream)) => show_files(rt, settings, stream),
+        None => say_usage(rt),
     }
 }
 

@@ -7,7 +7,7 @@ mod masks;
 mod texts;
 
 use bstr::BStr;
-use files::{argument, argument_count, read_file};
+use files::{read_file, two_paths};
 use rules::Scoring;
 use std::io;
 use std::rt::Files;
@@ -63,16 +63,11 @@ fn score_files(
     report(rt, mask_path, score_texts(layer, masks))
 }
 
-// No path is empty, and none is longer than its buffer.
 fn main(rt: HostRuntime) -> io::Result<()> {
     let mut first = [0u8; 4_096];
     let mut second = [0u8; 4_096];
-    let layer_path = argument(&rt, 1, &mut first).filter(|path| !path.is_empty());
-    let mask_path = argument(&rt, 2, &mut second).filter(|path| !path.is_empty());
-    match (layer_path, mask_path) {
-        (Some(layer_path), Some(mask_path)) if argument_count(&rt) == 3 => {
-            score_files(&rt, layer_path, mask_path)
-        }
-        _ => say_usage(&rt),
+    match two_paths(&rt, &mut first, &mut second) {
+        Some((layer_path, mask_path)) => score_files(&rt, layer_path, mask_path),
+        None => say_usage(&rt),
     }
 }
