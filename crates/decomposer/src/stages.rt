@@ -1,6 +1,5 @@
 // The stages on the graph of units, one call each.
 ghost use Rattle.std.specs.Prelude.{true, ◌≡◌, length};
-ghost use Rattle.rules.specs.Decomposition.{verdict_of};
 ghost use Rattle.rules.specs.Settings.{settings_in_range};
 ghost use Rattle.adjacency.specs.UnitGraph.{fixed_at};
 ghost use Rattle.units.specs.Merged.{Merged};
@@ -17,17 +16,6 @@ use rules::{Settings, Verdict};
 pub struct Searched {
     pub steps: u32,
     pub verdict: Verdict,
-}
-
-// Open where a step was due beyond the budget.
-fn verdict_of(stopped: bool) -> Verdict
-    ensures { result ≡ verdict_of stopped }
-{
-    if stopped {
-        Verdict::Open
-    } else {
-        Verdict::Best
-    }
 }
 
 // Searches the core and puts its masks down.
@@ -52,7 +40,7 @@ fn search(
     core_search::search_core(graph, merged, fixed, core, limits, &mut progress, masks);
     Searched {
         steps: settings.budget - progress.left as u32,
-        verdict: verdict_of(progress.stopped),
+        verdict: Verdict::from(progress),
     }
 }
 

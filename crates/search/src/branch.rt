@@ -42,7 +42,7 @@ impl Problem<'_> {
     }
 
     // Tries the masks from `first` up to `last` at place p, where mask m adds what the row has at m. A search that has ended has no steps left, so the one
-    // test for these ends the loop in both cases. (b) The masks are two numbers and no `Range`: handed on as one, a step took a twentieth longer.
+    // test for these ends the loop in both cases. The masks are two numbers and no `Range`: handed on as one, a step took a twentieth longer.
     #[cycle(search_masks_search_place)]
     fn search_masks(
         &self,

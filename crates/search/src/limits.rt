@@ -1,7 +1,8 @@
 // What a search is given, and what it gives.
 ghost use Rattle.std.specs.Prelude.{false, ◌≡◌};
+ghost use Rattle.rules.specs.Decomposition.{verdict_of};
 
-use rules::Settings;
+use rules::{Settings, Verdict};
 
 // What a run sets for the search of each of its components, in the 64 bits that the search computes in.
 #[derive(Clone, Copy)]
@@ -39,6 +40,19 @@ impl Progress {
         Progress {
             left: budget,
             stopped: false,
+        }
+    }
+}
+
+// Open where a step was due beyond the budget.
+impl From<Progress> for Verdict {
+    ghost from_gives = { λ p v. v ≡ verdict_of p.stopped };
+
+    fn from(progress: Progress) -> Verdict {
+        if progress.stopped {
+            Verdict::Open
+        } else {
+            Verdict::Best
         }
     }
 }
