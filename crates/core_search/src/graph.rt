@@ -5,7 +5,8 @@ ghost use Rattle.places.specs.LaidOut.{Exclusive};
 
 use adjacency::EdgeSets;
 
-// The edges of pieces, and the unit of each piece.
+// The edges of pieces, and the unit of each piece. The edges of units and the fixed masks of units are no part of it: both are made from it or beside it, and
+// peeling and putting back go by them alone.
 #[derive(Clone, Copy)]
 pub struct UnitGraph<'a> {
     pub edges: &'a EdgeSets,

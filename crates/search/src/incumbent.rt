@@ -4,7 +4,8 @@ ghost use Rattle.std.specs.Prelude.{cond, ◌≡◌};
 ghost use Rattle.search.specs.Branch.{ends_at, due_in, found_in};
 
 // The masks of the places so far, the incumbent (document 01: the holder) with its cost, whether a step was due beyond the budget, and the steps
-// that were left when the search ended, where it has. As no heap is used, the arrays have room for the most places.
+// that were left when the search ended, where it has. As no heap is used, the arrays have room for the most places. The
+// incumbent and its cost are a `Best` only when the search is over.
 #[derive(Drop)]
 pub struct Walk {
     pub partial: [u8; 512],

@@ -4,7 +4,8 @@ ghost use Rattle.rules.specs.Decomposition.{verdict_of};
 
 use rules::{Settings, Verdict};
 
-// What a run sets for the search of each of its components, in the 64 bits that the search computes in.
+// What a run sets for the search of each of its components, in the 64 bits that the search computes in. They are made from any settings, so that they are in
+// range is asked where they are used.
 #[derive(Clone, Copy)]
 pub struct Limits {
     pub masks: u64,
