@@ -17,10 +17,9 @@ use Rattle.rules.specs.declared.layer.Settings.{Settings}
 use Rattle.rules.specs.declared.layer.Piece.{Piece}
 use Rattle.rules.specs.Basics.{given}
 use Rattle.rules.specs.Settings.{piece_at}
-use Rattle.rules.specs.Questions.{Valid}
+use Rattle.adjacency.specs.Drawn.{Drawn}
 use Rattle.adjacency.specs.Adjacency.{conflict_of, stitch_of, tie_of, is_pair, in_row, RowTo, Holds, Adjacency, Ties}
 use Rattle.rules.proofs.Edges.{no_self_conflict, no_self_stitch, no_self_tie}
-use Rattle.rules.proofs.Validity.{valid_sound}
 use Rattle.rules.proofs.Tests.{and_left, and_right, or_either, same, same_where, ltb_next}
 
 -- ---- a pair, by its lesser and its greater number
@@ -130,19 +129,17 @@ rows_hold joins n {words} loops rows = record { bits = λ a b. rows.bits a b ∙
     go a b (no l) k d =
         rw (le-ltb a n (omega arith), le-ltb (max a b) n (omega arith), and-false (ltb (min a b) (max a b))) (and-false (joins a b))
 
--- the rows of a judged layer's pieces: no piece is joined to itself
-module _ (s : Settings) (ps : List Piece) (valid : Valid s ps) where
+-- the rows of a drawn layer's pieces: no piece is joined to itself
+module _ (s : Settings) (ps : List Piece) (drawn : Drawn s ps) where
   pub rows_adjacency : {conflictWords stitchWords : Matrix} → Rows (conflict_of s ps) (length ps) conflictWords → Rows (stitch_of s ps) (length ps) stitchWords
       → Adjacency s ps (length ps) conflictWords stitchWords
-  rows_adjacency conflicts stitches =
-      let f = valid_sound s ps valid in
-      record {
-        conflicts = rows_hold _ (length ps) (λ a h. no_self_conflict s (piece_at ps a)) conflicts;
-        stitches = rows_hold _ (length ps) (λ a h. no_self_stitch s (piece_at ps a) f.settings (f.areas a h)) stitches;
-      }
+  rows_adjacency conflicts stitches = record {
+    conflicts = rows_hold _ (length ps) (λ a h. no_self_conflict s (piece_at ps a)) conflicts;
+    stitches = rows_hold _ (length ps) (λ a h. no_self_stitch s (piece_at ps a) drawn.settings (drawn.areas a h)) stitches;
+  }
 
   pub rows_ties : {words : Matrix} → Rows (tie_of s ps) (length ps) words → Ties s ps (length ps) words
-  rows_ties rows = rows_hold _ (length ps) (λ a h. no_self_tie s (piece_at ps a) ((valid_sound s ps valid).areas a h)) rows
+  rows_ties rows = rows_hold _ (length ps) (λ a h. no_self_tie s (piece_at ps a) (drawn.areas a h)) rows
 
 -- ---- what the words say
 

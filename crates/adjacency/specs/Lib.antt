@@ -1,3 +1,4 @@
+pub mod Drawn
 pub mod Kinds
 pub mod Reaches
 pub mod Adjacency

@@ -1,13 +1,14 @@
-// The adjacency words of a judged layer: a bit for each pair of pieces, in words for each kind of edge and for ties. Each unordered pair
+// The adjacency words of a layer: a bit for each pair of pieces, in words for each kind of edge and for ties. Each unordered pair
 // is met once, from its greater number, and both of its bits are set.
 ghost use Rattle.std.specs.Prelude.{◌&&◌, ◌||◌, ◌≡◌, ℕ, ◌<◌, length};
 ghost use Rattle.bitset.specs.Edges.{has_edge, NoEdge};
 ghost use Rattle.adjacency.specs.Adjacency.{conflict_of, stitch_of, tie_of, is_pair, RowTo, Adjacency, Ties};
 ghost use Rattle.adjacency.specs.Kinds.{is_conflict, is_stitch, is_tie};
 
+use crate::layer::DrawnLayer;
 use crate::reach::Reach;
 use bitset::Matrix;
-use rules::{Edge, ValidLayer};
+use rules::Edge;
 
 // The edges of both kinds. They take 64 KB of stack, so what fills them is lent them, and none is copied.
 #[derive(Drop)]
@@ -47,8 +48,8 @@ fn join_by(edge: Edge, i: usize, j: usize, edges: &mut EdgeSets, ties: &mut Matr
 }
 
 // Adds the edges and ties between piece j and the pieces before it.
-#[tactic(auto, using(rules::proofs::Validity::layer_facts, rules::proofs::Ranges::settings_facts))]
-fn adjacency_row(layer: &ValidLayer, j: usize, edges: &mut EdgeSets, ties: &mut Matrix)
+#[tactic(auto, using(rules::proofs::Ranges::settings_facts))]
+fn adjacency_row(layer: &DrawnLayer, j: usize, edges: &mut EdgeSets, ties: &mut Matrix)
     requires { j < length layer.now.pieces.now }
     ensures conflicts { RowTo (conflict_of layer.now.settings layer.now.pieces.now) j j edges.old.conflicts edges.new.conflicts }
     ensures stitches { RowTo (stitch_of layer.now.settings layer.now.pieces.now) j j edges.old.stitches edges.new.stitches }
@@ -61,7 +62,7 @@ fn adjacency_row(layer: &ValidLayer, j: usize, edges: &mut EdgeSets, ties: &mut 
 }
 
 // Fills the words of edges and ties, whatever was in them.
-pub fn adjacency_words(layer: &ValidLayer, edges: &mut EdgeSets, ties: &mut Matrix)
+pub fn adjacency_words(layer: &DrawnLayer, edges: &mut EdgeSets, ties: &mut Matrix)
     ensures adjacency { Adjacency layer.now.settings layer.now.pieces.now (length layer.now.pieces.now) edges.new.conflicts edges.new.stitches }
     ensures ties { Ties layer.now.settings layer.now.pieces.now (length layer.now.pieces.now) ties.new }
 {

@@ -8,7 +8,7 @@ ghost use Rattle.adjacency.specs.UnitGraph.{unit_at};
 ghost use Rattle.theory.proofs.Merging.{Grouping};
 
 use crate::stages::decompose_units;
-use adjacency::EdgeSets;
+use adjacency::{DrawnLayer, EdgeSets};
 use core_search::UnitGraph;
 use rules::{Decomposition, Piece, ValidLayer};
 
@@ -24,7 +24,7 @@ fn spread_masks(units: &[u16], masks: &mut [u8])
 }
 
 // The run.
-#[tactic(auto, using(rules::proofs::Validity::layer_facts, units::proofs::TieUnits::new_front))]
+#[tactic(auto, using(adjacency::proofs::DrawnLaws::valid_drawn, rules::proofs::Validity::layer_facts, units::proofs::TieUnits::new_front))]
 pub fn decompose(layer: &ValidLayer, masks: &mut [u8]) -> Decomposition
     requires { length masks.old ≡ length layer.now.pieces.now }
     ensures masks_after { run_of result masks.new ≡ run layer.now.settings layer.now.pieces.now }
@@ -33,7 +33,11 @@ pub fn decompose(layer: &ValidLayer, masks: &mut [u8]) -> Decomposition
     let mut edges = EdgeSets::empty();
     let mut units = [0u16; 512];
     let units = &mut units[..layer.pieces.len()];
-    let all = units::layer_units(layer, &mut edges, units);
+    let drawn = DrawnLayer {
+        settings: layer.settings,
+        pieces: layer.pieces,
+    };
+    let all = units::layer_units(&drawn, &mut edges, units);
     let mut noted = [Piece::UNSET; 512];
     // A judged layer has no piece that differs from its unit (question 14), so that what is answered is `None`.
     let given = units::fixed_masks_of(layer.pieces);

@@ -11,14 +11,14 @@ ghost use Rattle.pair_tests.specs.PairTests.{conflict_at, stitch_at};
 
 mod tally;
 
-use adjacency::Reach;
+use adjacency::{DrawnLayer, Reach};
 use bitset::Matrix;
-use rules::{Edge, ValidLayer};
+use rules::Edge;
 pub use tally::Tally;
 
 // Tests piece j with each piece before it. Those that are tied are joined.
-#[tactic(auto, using(rules::proofs::Validity::layer_facts, rules::proofs::Ranges::settings_facts))]
-fn test_row(layer: &ValidLayer, masks: &[u8], j: usize, ties: &mut Matrix) -> Tally
+#[tactic(auto, using(rules::proofs::Ranges::settings_facts))]
+fn test_row(layer: &DrawnLayer, masks: &[u8], j: usize, ties: &mut Matrix) -> Tally
     requires j_bound { j < length layer.now.pieces.now }
     requires masks_len { length masks.now ≡ length layer.now.pieces.now }
     ensures tested_value { result.tested ≡ sum_to (λ u. 1) j }
@@ -40,7 +40,7 @@ fn test_row(layer: &ValidLayer, masks: &[u8], j: usize, ties: &mut Matrix) -> Ta
 
 // Tests every pair of the pieces of a layer. That there are as many masks as pieces stands in contracts, here and where a run fills its masks: one list is read and the
 // other written, so no one struct has both. Fills the words of ties, whatever was in them.
-pub fn test_pairs(layer: &ValidLayer, masks: &[u8], ties: &mut Matrix) -> Tally
+pub fn test_pairs(layer: &DrawnLayer, masks: &[u8], ties: &mut Matrix) -> Tally
     requires { length masks.now ≡ length layer.now.pieces.now }
     ensures tested_value { result.tested ≡ pairs_of (length layer.now.pieces.now) }
     ensures conflicts_value { result.conflicts ≡ conflicts_of (graph_of layer.now.settings layer.now.pieces.now) masks.now (length layer.now.pieces.now) }

@@ -5,6 +5,7 @@ ghost use Rattle.rules.specs.Calls.{score_masks};
 ghost use Rattle.rules.specs.Questions.{ask_each};
 ghost use Rattle.scoring.specs.MaskQuestions.{mask_question, tallied, units_scored};
 
+use adjacency::DrawnLayer;
 use bitset::Matrix;
 use counting::score_of;
 use pair_tests::{Tally, test_pairs};
@@ -37,7 +38,7 @@ fn scoring_of(weight: u32, tally: Tally) -> Scoring
 }
 
 // The score of masks on a layer, or refusal 12.
-#[tactic(auto, using(rules::proofs::Validity::layer_facts, units::proofs::TieUnits::new_front))]
+#[tactic(auto, using(adjacency::proofs::DrawnLaws::valid_drawn, rules::proofs::Validity::layer_facts, units::proofs::TieUnits::new_front))]
 fn score_units(layer: &ValidLayer, masks: &[u8]) -> Result<Scoring, Refused>
     requires { length masks.now ≡ length layer.now.pieces.now }
     ensures { answer_of result ≡ units_scored layer.now.settings layer.now.pieces.now masks.now }
@@ -45,7 +46,11 @@ fn score_units(layer: &ValidLayer, masks: &[u8]) -> Result<Scoring, Refused>
     let mut ties = Matrix::empty();
     let mut units = [0u16; 512];
     let units = &mut units[..layer.pieces.len()];
-    let tally = test_pairs(layer, masks, &mut ties);
+    let drawn = DrawnLayer {
+        settings: layer.settings,
+        pieces: layer.pieces,
+    };
+    let tally = test_pairs(&drawn, masks, &mut ties);
     units::number_units(&ties, units);
     units::judge_masks(Refusal::Split, units, masks)?;
     Ok(scoring_of(layer.settings.weight, tally))

@@ -4,7 +4,7 @@
 
 ghost use Rattle.std.specs.Prelude.{◌≡◌, length};
 
-use adjacency::EdgeSets;
+use adjacency::{DrawnLayer, EdgeSets};
 use bitset::Matrix;
 use core_search::{Limits, Progress, UnitGraph};
 use files::read_all;
@@ -68,14 +68,18 @@ fn first_word(edges: &Matrix) -> u64 {
 }
 
 // Stages 3 to 6 of a layer, called one by one as a run calls them, since the program may end after each of them.
-#[tactic(auto, using(rules::proofs::Validity::layer_facts, units::proofs::TieUnits::new_front))]
+#[tactic(auto, using(adjacency::proofs::DrawnLaws::valid_drawn, rules::proofs::Validity::layer_facts, units::proofs::TieUnits::new_front))]
 fn first_stages(last: Stage, layer: &ValidLayer, masks: &mut [u8]) -> u64
     requires { length masks.old ≡ length layer.now.pieces.now }
 {
     let mut edges = EdgeSets::empty();
     let mut units = [0u16; 512];
     let units = &mut units[..layer.pieces.len()];
-    let mut core = units::layer_units(layer, &mut edges, units);
+    let drawn = DrawnLayer {
+        settings: layer.settings,
+        pieces: layer.pieces,
+    };
+    let mut core = units::layer_units(&drawn, &mut edges, units);
     let given = units::fixed_masks_of(layer.pieces);
     let mut fixed = [Piece::UNSET; 512];
     units::note_masks(units, given.as_slice(), &mut fixed);
@@ -123,7 +127,7 @@ fn last_stages(
 }
 
 // The cost by edges of pieces. The pieces are judged first, as a call on records does.
-#[tactic(auto, using(rules::proofs::Validity::layer_facts, units::proofs::TieUnits::new_front))]
+#[tactic(auto, using(adjacency::proofs::DrawnLaws::valid_drawn, rules::proofs::Validity::layer_facts, units::proofs::TieUnits::new_front))]
 fn edge_score(settings: Settings, pieces: &[Piece], masks: &[u8]) -> Result<u64, Refused>
     requires { length masks.now ≡ length pieces.now }
 {
@@ -131,7 +135,11 @@ fn edge_score(settings: Settings, pieces: &[Piece], masks: &[u8]) -> Result<u64,
     let mut edges = EdgeSets::empty();
     let mut units = [0u16; 512];
     let units = &mut units[..layer.pieces.len()];
-    units::layer_units(&layer, &mut edges, units);
+    let drawn = DrawnLayer {
+        settings: layer.settings,
+        pieces: layer.pieces,
+    };
+    units::layer_units(&drawn, &mut edges, units);
     let score = counting::score_edges(settings.weight, &edges, masks);
     Ok(u64::from(score.cost))
 }

@@ -6,9 +6,8 @@ ghost use Rattle.adjacency.specs.Adjacency.{Adjacency};
 ghost use Rattle.units.specs.Steps.{GivenNumber};
 ghost use Rattle.units.specs.Numbered.{Numbered, UnitsOf};
 
-use adjacency::EdgeSets;
+use adjacency::{DrawnLayer, EdgeSets};
 use bitset::{BitSet, Matrix};
-use rules::ValidLayer;
 
 // Gives every member of a unit its number.
 fn give_number(members: &BitSet, number: usize, units: &mut [u16])
@@ -40,8 +39,7 @@ pub fn number_units(ties: &Matrix, units: &mut [u16]) -> BitSet
 }
 
 // Fills the words of edges of a layer, and numbers its units. Answers the set of the units' numbers.
-#[tactic(auto, using(rules::proofs::Validity::layer_facts))]
-pub fn layer_units(layer: &ValidLayer, edges: &mut EdgeSets, units: &mut [u16]) -> BitSet
+pub fn layer_units(layer: &DrawnLayer, edges: &mut EdgeSets, units: &mut [u16]) -> BitSet
     requires { length units.old ≡ length layer.now.pieces.now }
     ensures adjacency { Adjacency layer.now.settings layer.now.pieces.now (length layer.now.pieces.now) edges.new.conflicts edges.new.stitches }
     ensures units_of { UnitsOf layer.now.settings layer.now.pieces.now units.new result }

@@ -5,7 +5,6 @@ use lib.ListN.{length}
 use Rattle.rules.specs.Basics.{sum_to, sum_pairs}
 use Rattle.pair_tests.specs.PairTests.{conflict_at, stitch_at}
 use Rattle.rules.proofs.Sums.{pairs_more, pairs_count}
-use Rattle.rules.proofs.Validity.{layer_facts}
 use Rattle.adjacency.proofs.AdjacencyLaws.{rows_none, rows_more, rows_ties}
 use Rattle.pair_tests.proofs.PairLaws.{conflict_le, stitch_le, pairs_conflicts, pairs_stitches}
 use Rattle.pair_tests.proofs.test_pairs.Goals as goal
@@ -20,7 +19,7 @@ loop-j-init c =
 -- the numbers after this turn, which are at most 1 for each pair
 module _ (c : After-test_row) where
   inside : c.loop-j.j < 512
-  inside = omega (arith, (layer_facts _ _ c.args.layer.now.valid).few)
+  inside = omega (arith, c.args.layer.now.drawn.few)
 
   tested : (c.loop-j.tally.tested + c.test_row.result.tested ≡ sum_pairs (λ u v. 1) (c.loop-j.j + 1))
       × (c.loop-j.tally.tested + c.test_row.result.tested ≤ 130_816)
@@ -63,5 +62,5 @@ returns c =
       tested_value = rw e at all.tested ∙ pairs_count (length ps);
       conflicts_value = rw e at all.conflicts ∙ pairs_conflicts s ps masks (length ps);
       stitches_value = rw e at all.stitches ∙ pairs_stitches s ps masks (length ps);
-      ties = rows_ties s ps c.args.layer.now.valid (rw e at all.ties);
+      ties = rows_ties s ps c.args.layer.now.drawn (rw e at all.ties);
     }

@@ -10,7 +10,6 @@ use Rattle.rules.specs.Edges.{edge_of}
 use Rattle.rules.specs.Settings.{piece_at, no_piece}
 use Rattle.rules.proofs.Edges.{tie_sym}
 use Rattle.rules.proofs.Sums.{sum_more, sum_le}
-use Rattle.rules.proofs.Validity.{layer_facts}
 use Rattle.adjacency.specs.Adjacency.{tie_of}
 use Rattle.adjacency.specs.Kinds.{is_tie}
 use Rattle.adjacency.proofs.KindLaws.{tie_kind}
@@ -42,10 +41,10 @@ pub edge_from-edge-requires-clause-other_value : goal.edge_from-edge-requires-cl
 edge_from-edge-requires-clause-other_value c =
     let ps = c.args.layer.now.pieces.now in
     let low : c.loop-i.i < c.args.j = omega (arith, length-take-le c.args.j ps (omega arith)) in
-    rw (get_or-take c.args.j ps c.loop-i.i no_piece low) ((layer_facts _ ps c.args.layer.now.valid).pieces c.loop-i.i (omega arith))
+    rw (get_or-take c.args.j ps c.loop-i.i no_piece low) (c.args.layer.now.drawn.ranges c.loop-i.i (omega arith))
 
 pub join-requires-clause-i_bound : goal.join-requires-clause-i_bound
-join-requires-clause-i_bound c = omega (arith, below (goal.at.join-requires-clause-i_bound c).After-edge_from-edge, (layer_facts _ _ c.args.layer.now.valid).few)
+join-requires-clause-i_bound c = omega (arith, below (goal.at.join-requires-clause-i_bound c).After-edge_from-edge, c.args.layer.now.drawn.few)
 
 -- the test for a tie
 same : (e : Edge) → sameb the_type e Edge.Tie ≡ is_tie e
@@ -62,7 +61,7 @@ add-requires c =
     let ps = a.layer.now.pieces.now in
     let i = c.loop-i.i in
     let low = below at in
-    let few = (layer_facts s ps a.layer.now.valid).few in
+    let few = a.layer.now.drawn.few in
     let conflicts = sum_le (λ u. conflict_at s ps a.masks.now u a.j) i (λ u. conflict_le s ps a.masks.now u a.j) in
     let stitches = sum_le (λ u. stitch_at s ps a.masks.now u a.j) i (λ u. stitch_le s ps a.masks.now u a.j) in
     record {

@@ -3,7 +3,6 @@ use lib.Seq.{get_or-take, length-take-le}
 use Rattle.rules.specs.Edges.{edge_of}
 use Rattle.rules.specs.Settings.{no_piece, piece_at}
 use Rattle.rules.proofs.Edges.{conflict_sym, stitch_sym, tie_sym}
-use Rattle.rules.proofs.Validity.{layer_facts}
 use Rattle.adjacency.proofs.AdjacencyLaws.{row_more}
 use Rattle.adjacency.proofs.KindLaws.{conflict_kind, stitch_kind, tie_kind}
 use Rattle.adjacency.proofs.edge_sets.adjacency_row.Goals as goal
@@ -13,12 +12,12 @@ edge_from-requires-clause-other_value c =
     let ps = c.args.layer.now.pieces.now in
     let i = c.loop-i.i in
     let low : i < c.args.j = omega (arith, length-take-le c.args.j ps (omega arith)) in
-    rw (get_or-take c.args.j ps i no_piece low) ((layer_facts _ _ c.args.layer.now.valid).pieces i (omega arith))
+    rw (get_or-take c.args.j ps i no_piece low) (c.args.layer.now.drawn.ranges i (omega arith))
 
 pub join_by-requires-clause-i_bound : goal.join_by-requires-clause-i_bound
 join_by-requires-clause-i_bound c =
     let ps = c.args.layer.now.pieces.now in
-    omega (arith, length-take-le c.args.j ps (omega arith), (layer_facts _ _ c.args.layer.now.valid).few)
+    omega (arith, length-take-le c.args.j ps (omega arith), c.args.layer.now.drawn.few)
 
 pub loop-i-preserved : goal.loop-i-preserved
 loop-i-preserved c =

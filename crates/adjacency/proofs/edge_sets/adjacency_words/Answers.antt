@@ -20,6 +20,6 @@ pub returns : goal.returns
 returns c =
     let e : c.loop-j.j ≡ length c.args.layer.now.pieces.now = omega arith in
     record {
-      adjacency = rows_adjacency _ _ c.args.layer.now.valid (rw e at c.loop-j.invariant.conflicts) (rw e at c.loop-j.invariant.stitches);
-      ties = rows_ties _ _ c.args.layer.now.valid (rw e at c.loop-j.invariant.ties);
+      adjacency = rows_adjacency _ _ c.args.layer.now.drawn (rw e at c.loop-j.invariant.conflicts) (rw e at c.loop-j.invariant.stitches);
+      ties = rows_ties _ _ c.args.layer.now.drawn (rw e at c.loop-j.invariant.ties);
     }
