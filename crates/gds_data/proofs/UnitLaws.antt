@@ -5,7 +5,7 @@ use mathlib.Core.Path.{◌≡◌, sym, ap, ◌∙◌}
 use Prim.Native.Nat.{ℕ, zero, suc, ◌+◌, ◌-◌, ◌*◌, ◌^◌, ◌%◌, ◌≤◌, ◌<◌}
 use Rattle.std.proofs.Common.{Option, Some, None, MatchOption, subst}
 use Rattle.std.specs.Option.{SomeIff}
-use native.Mathlib.Nat.{zero-mul, suc-mul, mul_assoc, mul_left_comm, pow-le-pow_right, le-mul_of_pos_right, mul-le-mul_left, mul-lt-mul_of_pos_left, mul-lt-mul_of_pos_right, mod-eq_of_lt, lt_of_le_of_lt, lt_of_lt_of_le}
+use native.Mathlib.Nat.{zero-mul, suc-mul, mul_assoc, mul_left_comm, mul-one, pow-le-pow_right, le-mul_of_pos_right, mul-le-mul_left, mul-lt-mul_of_pos_left, mul-lt-mul_of_pos_right, mod-eq_of_lt, lt_of_le_of_lt, lt_of_lt_of_le}
 use native.Mathlib.Omega.{arith}
 use lib.Dec.{leb, lit<, lit≤}
 use lib.Pow.{pow-add}
@@ -27,14 +27,6 @@ within_high least greatest x h =
 
 -- ---- A factor of 16
 
--- the factor leaves 64 bits: what it is applied to does too, or is 0
-pub wide_factor : (f k : ℕ) → (16 ^ k < 18_446_744_073_709_551_616 → ⊥) → false ≡ passing (f * 16 ^ k)
-wide_factor zero k h = sym (rw (zero-mul (16 ^ k)))
-wide_factor (suc f) k h = sym (within_high _ _ (suc f * 16 ^ k) (omega (arith, suc-mul f (16 ^ k))))
-
-pub wide_product : (f k : ℕ) → (f * 16 ^ k < 18_446_744_073_709_551_616 → ⊥) → false ≡ passing (f * 16 ^ k)
-wide_product f k h = sym (within_high _ _ (f * 16 ^ k) (omega arith))
-
 -- a fraction above the range stays above it
 pub too_large : (f k : ℕ) → 19_342_832_456_647_180 < f → passing (f * 16 ^ k) ≡ false
 too_large f k h = within_high _ _ (f * 16 ^ k) (omega (arith, le-mul_of_pos_right f (power_some k)))
@@ -43,6 +35,18 @@ too_large f k h = within_high _ _ (f * 16 ^ k) (omega (arith, le-mul_of_pos_righ
     power_some k =
         let none : 0 ≤ k = omega arith in
         let up : 16 ^ 0 ≤ 16 ^ k = pow-le-pow_right {n = 16} (lit< tt) none in omega arith
+
+-- and so does a number, with no factor left
+above : (x : ℕ) → 19_342_832_456_647_180 < x → false ≡ passing x
+above x h = sym (too_large x 0 h) ∙ ap passing (mul-one x)
+
+-- the factor leaves 64 bits: what it is applied to does too, or is 0
+pub wide_factor : (f k : ℕ) → (16 ^ k < 18_446_744_073_709_551_616 → ⊥) → false ≡ passing (f * 16 ^ k)
+wide_factor zero k h = sym (rw (zero-mul (16 ^ k)))
+wide_factor (suc f) k h = above (suc f * 16 ^ k) (omega (arith, suc-mul f (16 ^ k)))
+
+pub wide_product : (f k : ℕ) → (f * 16 ^ k < 18_446_744_073_709_551_616 → ⊥) → false ≡ passing (f * 16 ^ k)
+wide_product f k h = above (f * 16 ^ k) (omega arith)
 
 -- a factor and a product, each none where it leaves 64 bits
 pub scaled_in_range : (f k : ℕ) (factor product : Option ℕ) (r : Bool)
