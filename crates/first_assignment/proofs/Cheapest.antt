@@ -25,11 +25,11 @@ module _ (f : ℕ → ℕ) where
   unfolding cheapest
   cheapest_one = by_test (ltb (f 0) (f 0)) (λ e. rw e) (λ e. rw e)
 
-  cheapest_new : (m : ℕ) → f m < f (cheapest f m) → cheapest f (m + 1) ≡ m
+  pub cheapest_new : (m : ℕ) → f m < f (cheapest f m) → cheapest f (m + 1) ≡ m
   unfolding cheapest
   cheapest_new m h = rw (add-one m, lt-ltb (f m) (f (cheapest f m)) h)
 
-  cheapest_old : (m : ℕ) → f (cheapest f m) ≤ f m → cheapest f (m + 1) ≡ cheapest f m
+  pub cheapest_old : (m : ℕ) → f (cheapest f m) ≤ f m → cheapest f (m + 1) ≡ cheapest f m
   unfolding cheapest
   cheapest_old m h = rw (add-one m, le-ltb (f m) (f (cheapest f m)) h)
 

@@ -22,7 +22,7 @@ part_stored b at bytes h e =
 
 -- ---- One text after another
 
-put_on : {b : List ℕ} {at : ℕ} {t : List ℕ} {end : ℕ} {l u : List ℕ} {end' : ℕ} {l' : List ℕ} → Put b at t end l → Put l end u end' l' → Put b at (t ++ u) end' l'
+pub put_on : {b : List ℕ} {at : ℕ} {t : List ℕ} {end : ℕ} {l u : List ℕ} {end' : ℕ} {l' : List ℕ} → Put b at t end l → Put l end u end' l' → Put b at (t ++ u) end' l'
 put_on {b} {at} {t} {end} {l} {u} p q = record {
   end = omega (arith, p.end, q.end, length-append t u);
   stored = q.stored ∙ rw (p.stored, p.end) (sets_append b at t u);
