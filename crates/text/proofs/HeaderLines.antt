@@ -1,10 +1,9 @@
 -- The six lines before the pieces. A number that is read up to the cap is in a range below the cap exactly when the number itself is, so a line is judged as
 -- the rules judge it; and the lines are read one after the other. Assumes nothing.
-use Rattle.std.proofs.Common.{◌≡◌, refl, sym, ap, ◌∙◌, ℕ, suc, ◌<◌, min, true, false, List, [], ◌∷◌, ◌++◌, get_or, map, take, drop, set, length, ◌+◌, add-one, arith, drop-cons}
-use lib.ListN.{get_or-map}
+use Rattle.std.proofs.Common.{◌≡◌, refl, sym, ap, ◌∙◌, ℕ, suc, ◌<◌, min, true, false, List, [], ◌∷◌, ◌++◌, get_or, ◌+◌, arith}
 use mathlib.Core.List.{append-nil}
 use mathlib.Core.Path.{ap₂}
-use lib.Seq.{append_snoc, take_all, take-suc-set}
+use lib.Seq.{append_snoc}
 use Rattle.rules.specs.declared.refusal.Place.{Place}
 use Rattle.rules.specs.Lines.{NumbersRead}
 use Rattle.rules.specs.LayerText.{NumberLine, header_lines}
@@ -12,8 +11,6 @@ use Rattle.rules.specs.Settings.{within}
 use Rattle.rules.specs.Questions.{Outcome, done, refused, and_then, read_line, read_number, read_numbers, header_from, read_header}
 use Rattle.numerals.specs.Numerals.{cap}
 use Rattle.numerals.proofs.Cap.{cap_range, cap_same}
-use Rattle.text.specs.declared.header.Expected.{Expected}
-use Rattle.text.specs.Lines.{line_of}
 use Rattle.lines.specs.Readers.{capped_line}
 use Rattle.lines.proofs.ReaderLaws.{LineThere, line_refused, line_there, value_there}
 
@@ -53,12 +50,6 @@ module _ (text key : List ℕ) (least greatest lineNo : ℕ) where
 
 -- ---- The six lines
 
-abbrev pub expected_at : List Expected → ℕ → Expected
-expected_at lines i = get_or lines i (record { key = record { ref_ptr = (0, 0); now = [] }; least = 0; greatest = 0 })
-
-pub record SixLines (lines : List Expected) : Type 0 where
-  pub six : map line_of lines ≡ header_lines
-
 -- numbers in front of others
 abbrev ahead : List ℕ → Outcome NumbersRead → Outcome NumbersRead
 ahead vs (done l) = done (record { numbers = vs ++ l.numbers; rest = l.rest })
@@ -76,40 +67,25 @@ ahead_snoc vs v (refused n place) = refl
 pub record Read (text vs : List ℕ) (lines : List NumberLine) (lineNo : ℕ) (rest : List ℕ) : Type 0 where
   pub same : read_numbers header_lines 1 text ≡ ahead vs (read_numbers lines lineNo rest)
 
-pub read_start : (text : List ℕ) → Read text [] header_lines 1 text
-read_start text = record { same = ahead_none (read_numbers header_lines 1 text) }
+pub read_start : {text rest : List ℕ} {lineNo : ℕ} → rest ≡ text → lineNo ≡ 1 → Read text [] header_lines lineNo rest
+read_start {text} whole first = rw (whole, first) (record { same = ahead_none (read_numbers header_lines 1 text) })
 
-module _ (text values rest : List ℕ) (i : ℕ) (passed : Read text (take i values) (drop i header_lines) (i + 1) rest) (lines : List Expected) (s : SixLines lines) (turn : i < 6) where
-  -- line i of the six
-  line_here : drop i header_lines ≡ line_of (expected_at lines i) ∷ drop (i + 1) header_lines
-  line_here =
-      let none = expected_at [] 0 in
-      let here : get_or header_lines i (line_of none) ≡ line_of (expected_at lines i) = ap (λ (ls : List NumberLine). get_or ls i (line_of none)) (sym s.six) ∙ get_or-map line_of lines i none in
-      rw (add-one, drop-cons header_lines i (line_of none), here)
-
-  pub read_on : length values ≡ 6 → (v : ℕ) (after : List ℕ) → done (record { number = v; rest = after }) ≡ read_number (line_of (expected_at lines i)) (i + 1) rest
-      → Read text (take (i + 1) (set values i v)) (drop (i + 1) header_lines) (i + 1 + 1) after
+module _ {text vs rest : List ℕ} {expected : NumberLine} {lines : List NumberLine} {lineNo : ℕ} (passed : Read text vs (expected ∷ lines) lineNo rest) where
+  pub read_on : {v next : ℕ} {after : List ℕ} → done (record { number = v; rest = after }) ≡ read_number expected lineNo rest → next ≡ lineNo + 1 → Read text (vs ++ (v ∷ [])) lines next after
   unfolding read_numbers
-  read_on room v after one = record {
-    same =
-        passed.same
-        ∙ rw (line_here, sym one, read_numbers)
-        (ahead_snoc (take i values) v (read_numbers (drop (i + 1) header_lines) (suc (i + 1)) after)
-        ∙ ap₂ (λ (vs : List ℕ) (k : ℕ). ahead vs (read_numbers (drop (i + 1) header_lines) k after))
-        (sym (ap (λ (k : ℕ). take k (set values i v)) (add-one i) ∙ take-suc-set values i v (omega arith))) (sym (add-one (i + 1))));
-  }
+  read_on {v} {next} {after} one further =
+      let line : next ≡ suc lineNo = omega arith in
+      rw line (record { same = passed.same ∙ rw (sym one, read_numbers) (ahead_snoc vs v (read_numbers lines (suc lineNo) after)) })
 
-  pub read_stop : (number : ℕ) (place : Place) → refused number place ≡ read_number (line_of (expected_at lines i)) (i + 1) rest → refused number place ≡ read_header text
+  pub read_stop : {number : ℕ} {place : Place} → refused number place ≡ read_number expected lineNo rest → refused number place ≡ read_header text
   unfolding read_numbers read_header
-  read_stop number place one =
-      let all : read_numbers header_lines 1 text ≡ refused number place = passed.same ∙ rw (line_here, sym one, read_numbers) in
+  read_stop {number} {place} one =
+      let all : read_numbers header_lines 1 text ≡ refused number place = passed.same ∙ rw (sym one, read_numbers) in
       sym (rw all)
 
-pub read_end : (text values rest : List ℕ) (i : ℕ) → Read text (take i values) (drop i header_lines) (i + 1) rest → length values ≡ 6 → i ≡ 6
-    → done (header_from (record { numbers = values; rest = rest })) ≡ read_header text
+pub read_end : {text vs rest : List ℕ} {lineNo : ℕ} → Read text vs [] lineNo rest → done (header_from (record { numbers = vs; rest = rest })) ≡ read_header text
 unfolding read_numbers read_header
-read_end text values rest i passed room e =
-    let all : read_numbers header_lines 1 text ≡ ahead (take i values) (read_numbers [] (i + 1) rest)
-    = passed.same ∙ ap (λ (k : ℕ). ahead (take i values) (read_numbers (drop k header_lines) (i + 1) rest)) e in
-    let whole : take i values ++ [] ≡ values = append-nil (take i values) ∙ take_all i values (omega arith) in
-    sym (rw all (ap (λ (ns : List ℕ). done (header_from (record { numbers = ns; rest = rest }))) whole))
+read_end {text} {vs} {rest} passed =
+    let all : read_numbers header_lines 1 text ≡ done (record { numbers = vs; rest = rest })
+    = passed.same ∙ ap (λ (ns : List ℕ). done (record { numbers = ns; rest = rest })) (append-nil vs) in
+    sym (rw all)

@@ -16,45 +16,49 @@ struct Expected {
     greatest: u32,
 }
 
-// The six lines in their order.
-const LINES: [Expected; 6] = [
-    Expected {
-        key: b"masks=",
-        least: Settings::MASKS_LEAST,
-        greatest: Settings::MASKS_GREATEST,
-    },
-    Expected {
-        key: b"spacing=",
-        least: Settings::SPACING_LEAST,
-        greatest: Settings::SPACING_GREATEST,
-    },
-    Expected {
-        key: b"margin=",
-        least: Settings::MARGIN_LEAST,
-        greatest: Settings::MARGIN_GREATEST,
-    },
-    Expected {
-        key: b"weight=",
-        least: Settings::WEIGHT_LEAST,
-        greatest: Settings::WEIGHT_GREATEST,
-    },
-    Expected {
-        key: b"budget=",
-        least: Settings::BUDGET_LEAST,
-        greatest: Settings::BUDGET_GREATEST,
-    },
-    Expected {
-        key: b"pieces=",
-        least: 0,
-        greatest: Piece::COUNT_GREATEST as u32,
-    },
-];
+// The six lines in their order. No table holds them: the keys' addresses in it would be filled in as the library is loaded, and the
+// library for C has no such data.
+const MASKS: Expected = Expected {
+    key: b"masks=",
+    least: Settings::MASKS_LEAST,
+    greatest: Settings::MASKS_GREATEST,
+};
+
+const SPACING: Expected = Expected {
+    key: b"spacing=",
+    least: Settings::SPACING_LEAST,
+    greatest: Settings::SPACING_GREATEST,
+};
+
+const MARGIN: Expected = Expected {
+    key: b"margin=",
+    least: Settings::MARGIN_LEAST,
+    greatest: Settings::MARGIN_GREATEST,
+};
+
+const WEIGHT: Expected = Expected {
+    key: b"weight=",
+    least: Settings::WEIGHT_LEAST,
+    greatest: Settings::WEIGHT_GREATEST,
+};
+
+const BUDGET: Expected = Expected {
+    key: b"budget=",
+    least: Settings::BUDGET_LEAST,
+    greatest: Settings::BUDGET_GREATEST,
+};
+
+const PIECES: Expected = Expected {
+    key: b"pieces=",
+    least: 0,
+    greatest: Piece::COUNT_GREATEST as u32,
+};
 
 // The number of the next line, which is to be this one.
-fn read_number(reader: &mut Reader, expected: &Expected) -> Result<u32, Refused>
-    requires small { expected.now.greatest < cap }
+fn read_number(reader: &mut Reader, expected: Expected) -> Result<u32, Refused>
+    requires small { expected.greatest < cap }
     requires room { reader.old.line < 4_294_967_295 }
-    ensures number { answer_as {B = NumberRead} (λ n. record { number = n; rest = reader.new.rest.now }) result ≡ read_number (line_of expected.now) reader.old.line reader.old.rest.now }
+    ensures number { answer_as {B = NumberRead} (λ n. record { number = n; rest = reader.new.rest.now }) result ≡ read_number (line_of expected) reader.old.line reader.old.rest.now }
     ensures line { OnOk result (reader.new.line ≡ reader.old.line + 1) }
 {
     let place = reader.place();
@@ -79,11 +83,12 @@ pub fn read_header(text: &[u8]) -> Result<Header<'_>, Refused>
     ensures line { IfOk result (λ h. h.after.line ≡ 7) }
 {
     let mut reader = Reader::new(text);
-    let mut numbers = [0; 6];
-    for (i, expected) in LINES.iter().enumerate() {
-        numbers[i] = read_number(&mut reader, expected)?;
-    }
-    let [masks, spacing, margin, weight, budget, count] = numbers;
+    let masks = read_number(&mut reader, MASKS)?;
+    let spacing = read_number(&mut reader, SPACING)?;
+    let margin = read_number(&mut reader, MARGIN)?;
+    let weight = read_number(&mut reader, WEIGHT)?;
+    let budget = read_number(&mut reader, BUDGET)?;
+    let count = read_number(&mut reader, PIECES)?;
     let settings = Settings {
         masks,
         spacing,

@@ -11,7 +11,7 @@ use line_writer::Writer;
 use rules::{Piece, Place, Refusal, Refused, Settings, ValidLayer, stated_mask};
 
 // The six lines before the pieces. Their keys stand here beside the numbers, and where they are read beside the ranges: that both are the rules' (`header_keys`) is
-// promised, so neither table can differ from the other.
+// promised, so neither can differ from the other.
 fn write_header(out: &mut Writer, settings: Settings, count: u32)
     requires { HasRoom out.old (number_lines header_keys (header_numbers settings count)) }
     ensures { Wrote out.old (number_lines header_keys (header_numbers settings count)) out.new }

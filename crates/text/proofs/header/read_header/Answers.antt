@@ -1,30 +1,74 @@
-use Rattle.std.proofs.Common.{◌+◌, refl, ap, ◌∙◌, length-set, arith}
+-- `read_header`: after each line that was read, the numbers so far and the lines from here on are what the six lines are read as. Assumes nothing.
 use Rattle.std.proofs.lemmas.Result.{err_from_is_err_and}
 use Rattle.rules.specs.Lines.{ascii}
 use Rattle.text.proofs.HeaderLines.{read_start, read_on, read_stop, read_end}
 use Rattle.text.proofs.header.read_header.Goals as goal
 
-pub loop-i-init : goal.loop-i-init
+pub returns-in_err-masks-clause-header : goal.returns-in_err-masks-clause-header
 unfolding ascii
-loop-i-init c = rw c.new-reader.ensures.rest (record { lines = record { six = refl }; line = c.new-reader.ensures.line; room = refl; read = read_start _ })
-
-pub loop-i-preserved : goal.loop-i-preserved
-loop-i-preserved c =
-    let i = c.loop-i.invariant in
-    let one = rw i.line at c.in_ok-numbers.ensures.number in
-    record {
-      lines = i.lines;
-      line = c.in_ok-numbers.ensures.line ∙ ap (λ n. n + 1) i.line;
-      room = length-set c.loop-i.numbers c.loop-i.i c.in_ok-numbers.field-0 ∙ i.room;
-      read = read_on _ _ _ _ i.read _ i.lines (omega arith) i.room _ _ one;
-    }
-
-pub returns-in_err-numbers-clause-header : goal.returns-in_err-numbers-clause-header
-returns-in_err-numbers-clause-header c =
+returns-in_err-masks-clause-header c =
     let p = err_from_is_err_and c.from_residual.result c.from_residual.ensures.1 in
-    let i = c.loop-i.invariant in
-    let one = rw i.line at c.in_err-numbers.ensures.number in
-    rw (p.1, p.2) (read_stop _ _ _ _ i.read _ i.lines (omega arith) _ _ one)
+    let r0 = read_start c.new-reader.ensures.rest c.new-reader.ensures.line in
+    rw (p.1, p.2) (read_stop r0 c.in_err-masks.ensures.number)
+
+pub returns-in_err-spacing-clause-header : goal.returns-in_err-spacing-clause-header
+unfolding ascii
+returns-in_err-spacing-clause-header c =
+    let p = err_from_is_err_and c.from_residual-in_err-spacing.result c.from_residual-in_err-spacing.ensures.1 in
+    let r0 = read_start c.new-reader.ensures.rest c.new-reader.ensures.line in
+    let r1 = read_on r0 c.in_ok-masks.ensures.number c.in_ok-masks.ensures.line in
+    rw (p.1, p.2) (read_stop r1 c.in_err-spacing.ensures.number)
+
+pub returns-in_err-margin-clause-header : goal.returns-in_err-margin-clause-header
+unfolding ascii
+returns-in_err-margin-clause-header c =
+    let p = err_from_is_err_and c.from_residual-in_err-margin.result c.from_residual-in_err-margin.ensures.1 in
+    let r0 = read_start c.new-reader.ensures.rest c.new-reader.ensures.line in
+    let r1 = read_on r0 c.in_ok-masks.ensures.number c.in_ok-masks.ensures.line in
+    let r2 = read_on r1 c.in_ok-spacing.ensures.number c.in_ok-spacing.ensures.line in
+    rw (p.1, p.2) (read_stop r2 c.in_err-margin.ensures.number)
+
+pub returns-in_err-weight-clause-header : goal.returns-in_err-weight-clause-header
+unfolding ascii
+returns-in_err-weight-clause-header c =
+    let p = err_from_is_err_and c.from_residual-in_err-weight.result c.from_residual-in_err-weight.ensures.1 in
+    let r0 = read_start c.new-reader.ensures.rest c.new-reader.ensures.line in
+    let r1 = read_on r0 c.in_ok-masks.ensures.number c.in_ok-masks.ensures.line in
+    let r2 = read_on r1 c.in_ok-spacing.ensures.number c.in_ok-spacing.ensures.line in
+    let r3 = read_on r2 c.in_ok-margin.ensures.number c.in_ok-margin.ensures.line in
+    rw (p.1, p.2) (read_stop r3 c.in_err-weight.ensures.number)
+
+pub returns-in_err-budget-clause-header : goal.returns-in_err-budget-clause-header
+unfolding ascii
+returns-in_err-budget-clause-header c =
+    let p = err_from_is_err_and c.from_residual-in_err-budget.result c.from_residual-in_err-budget.ensures.1 in
+    let r0 = read_start c.new-reader.ensures.rest c.new-reader.ensures.line in
+    let r1 = read_on r0 c.in_ok-masks.ensures.number c.in_ok-masks.ensures.line in
+    let r2 = read_on r1 c.in_ok-spacing.ensures.number c.in_ok-spacing.ensures.line in
+    let r3 = read_on r2 c.in_ok-margin.ensures.number c.in_ok-margin.ensures.line in
+    let r4 = read_on r3 c.in_ok-weight.ensures.number c.in_ok-weight.ensures.line in
+    rw (p.1, p.2) (read_stop r4 c.in_err-budget.ensures.number)
+
+pub returns-in_err-count-clause-header : goal.returns-in_err-count-clause-header
+unfolding ascii
+returns-in_err-count-clause-header c =
+    let p = err_from_is_err_and c.from_residual-in_err-count.result c.from_residual-in_err-count.ensures.1 in
+    let r0 = read_start c.new-reader.ensures.rest c.new-reader.ensures.line in
+    let r1 = read_on r0 c.in_ok-masks.ensures.number c.in_ok-masks.ensures.line in
+    let r2 = read_on r1 c.in_ok-spacing.ensures.number c.in_ok-spacing.ensures.line in
+    let r3 = read_on r2 c.in_ok-margin.ensures.number c.in_ok-margin.ensures.line in
+    let r4 = read_on r3 c.in_ok-weight.ensures.number c.in_ok-weight.ensures.line in
+    let r5 = read_on r4 c.in_ok-budget.ensures.number c.in_ok-budget.ensures.line in
+    rw (p.1, p.2) (read_stop r5 c.in_err-count.ensures.number)
 
 pub returns-clause-header : goal.returns-clause-header
-returns-clause-header c = read_end _ _ _ c.loop-i.i c.loop-i.invariant.read c.loop-i.invariant.room (omega arith)
+unfolding ascii
+returns-clause-header c =
+    let r0 = read_start c.new-reader.ensures.rest c.new-reader.ensures.line in
+    let r1 = read_on r0 c.in_ok-masks.ensures.number c.in_ok-masks.ensures.line in
+    let r2 = read_on r1 c.in_ok-spacing.ensures.number c.in_ok-spacing.ensures.line in
+    let r3 = read_on r2 c.in_ok-margin.ensures.number c.in_ok-margin.ensures.line in
+    let r4 = read_on r3 c.in_ok-weight.ensures.number c.in_ok-weight.ensures.line in
+    let r5 = read_on r4 c.in_ok-budget.ensures.number c.in_ok-budget.ensures.line in
+    let r6 = read_on r5 c.in_ok-count.ensures.number c.in_ok-count.ensures.line in
+    read_end r6
