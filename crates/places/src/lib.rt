@@ -14,3 +14,4 @@ pub use fixed::local_fixed;
 pub use lists::Lists;
 pub use local::Local;
 pub use order::{list_members, put_masks};
+pub use pieces::{UnitPieces, pieces_of_units};

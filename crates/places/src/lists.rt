@@ -2,16 +2,14 @@
 // No two pieces have edges of both kinds, so there is an entry at most for each of the 130,816 pairs of pieces. The room is larger, since no proof
 // needs it to be exact: the law of counting (`room_left` in proofs/Counting) bounds the entries by half of 512 * 512, and 131,584 is 512 more.
 ghost use Rattle.std.specs.Prelude.{[], ◌≡◌, ℕ, ◌+◌, ◌*◌, ◌≤◌, ◌<◌, length, get_or};
-ghost use Rattle.adjacency.specs.UnitGraph.{unit_at};
 ghost use Rattle.places.specs.Local.{conflicts_at, stitches_at, Earlier};
 ghost use Rattle.places.specs.Parts.{part_at, Parts};
 ghost use Rattle.places.specs.LaidOut.{Exclusive, LaidOut};
 
-use crate::pieces::pieces_of_units;
+use crate::pieces::UnitPieces;
 use crate::seats::Seats;
 use adjacency::EdgeSets;
 use arrayvec::ArrayVec;
-use bitset::BitSet;
 use std::marker::Model;
 
 // The earlier neighbours of each place. The entries are in parts: those of place k in conflict are part 2 k, and its stitch neighbours part 2 k + 1.
@@ -69,26 +67,23 @@ impl Lists {
         part(self.starts.as_slice(), self.entries.as_slice(), 2 * k + 1)
     }
 
-    // Lays out the places, whose units are those of `order`. A unit's pieces are those that `units` gives it. In which order the entries of a list
+    // Lays out the places, whose units are those of `order`. A unit's pieces are those that `of_units` gives it. In which order the entries of a list
     // stand is left open, as a cost only counts them. Edges and units come as two, since the graph of units (`core_search::UnitGraph`) stands above
-    // this crate. Inlined, the sets would stand on the stack while the search goes from place to place.
+    // this crate. Inlined, the seats would stand on the stack while the search goes from place to place.
     #[inline(never)]
-    pub fn lay_out(&mut self, edges: &EdgeSets, units: &[u16], order: &[u16])
-        requires size_bound { (length order.now ≤ 512) × (length units.now ≤ 512) }
+    pub fn lay_out(&mut self, edges: &EdgeSets, of_units: &UnitPieces, order: &[u16])
+        requires size_bound { length order.now ≤ 512 }
         requires by_index { (i : ℕ) → i < length order.now → get_or order.now i 0 < 512 }
         requires by_index_2 { (i j : ℕ) → i < j → j < length order.now → get_or order.now i 0 < get_or order.now j 0 }
-        requires by_index_3 { (i : ℕ) → i < length units.now → unit_at units.now i < 512 }
         requires exclusive { Exclusive edges.now.conflicts edges.now.stitches }
-        ensures { LaidOut edges.now.conflicts edges.now.stitches units.now order.now self.new }
+        ensures { LaidOut edges.now.conflicts edges.now.stitches of_units.now.units.now order.now self.new }
     {
-        let mut of_units = [BitSet::empty(); 512];
-        pieces_of_units(units, &mut of_units);
         let mut seats = Seats::none();
         self.entries.clear();
         self.starts.clear();
         self.starts.push(0);
         for (k, unit) in order.iter().enumerate() {
-            let pieces = of_units[usize::from(*unit)];
+            let pieces = of_units.sets[usize::from(*unit)];
             seats.list_place(&edges.conflicts, &pieces, &mut self.entries);
             self.starts.push(self.entries.len() as u32);
             seats.list_place(&edges.stitches, &pieces, &mut self.entries);

@@ -45,4 +45,4 @@ put_masks-requires c =
 pub returns : goal.returns
 returns c =
     let made = (goal.at.returns c).After-as_slice-own in
-    one_searched _ c.requires.given (is made) (few made) c.lay_out.ensures (own made) c.library_end-end.ensures c.search_component-best.ensures c.put_masks.ensures
+    one_searched _ c.requires.given (is made) (few made) (rw c.requires.units at c.lay_out.ensures) (own made) c.library_end-end.ensures c.search_component-best.ensures c.put_masks.ensures

@@ -9,15 +9,15 @@ use Rattle.rules.specs.Units.{merged_into}
 use Rattle.adjacency.specs.Members.{members_of}
 use Rattle.adjacency.specs.UnitGraph.{unit_at}
 use Rattle.places.specs.Seats.{place_entries}
-use Rattle.places.proofs.Members.{none_there, unit_members}
+use Rattle.places.proofs.Members.{unit_members}
 use Rattle.places.proofs.LocalCost.{laid_parts, laid_all}
 use Rattle.places.proofs.Turns.{Known, turn_room, turn_next}
 use Rattle.places.proofs.lists.Lists.lay_out.Goals as goal
 use Rattle.places.proofs.lists.Lists.lay_out.Goals.{In-loop-k}
 
-known : (c : In-loop-k) → Known c.args.edges.now.conflicts c.args.edges.now.stitches c.args.units.now c.args.order.now
+known : (c : In-loop-k) → Known c.args.edges.now.conflicts c.args.edges.now.stitches c.args.of_units.now.units.now c.args.order.now
 known c = record {
-  few = c.requires.size_bound.1;
+  few = c.args.of_units.now.few;
   rising = c.requires.by_index_2;
   exclusive = c.requires.exclusive;
 }
@@ -28,26 +28,25 @@ module _ (turn : In-loop-k) where
   unit = get_or turn.args.order.now turn.loop-k.k 0
 
   abbrev pieces : List ℕ
-  pieces = merged_into (unit_at turn.args.units.now) (length turn.args.units.now) unit
+  pieces = merged_into (unit_at turn.args.of_units.now.units.now) (length turn.args.of_units.now.units.now) unit
 
   -- the set that is read has the pieces of the unit
-  found : (v : ℕ) (d : List ℕ) → v ≡ unit → members_of (get_or turn.pieces_of_units.new.pieces v d) ≡ pieces
+  found : (v : ℕ) (d : List ℕ) → v ≡ unit → members_of (get_or turn.args.of_units.now.sets.now v d) ≡ pieces
   found v d at =
-      let sets = turn.pieces_of_units.new.pieces in
-      let long : length sets ≡ 512 = turn.pieces_of_units.ensures.all in
+      let of_units = turn.args.of_units.now in
+      let sets = of_units.sets.now in
+      let units = of_units.units.now in
+      let long : length sets ≡ 512 = of_units.all in
       let small : unit < 512 = turn.requires.by_index turn.loop-k.k (omega arith) in
       ap (λ (x : ℕ). members_of (get_or sets x d)) at
       ∙ ap members_of (get_or_default sets unit d [] (omega arith))
-      ∙ unit_members (get_or sets unit []) turn.args.units.now (length turn.args.units.now) unit turn.requires.size_bound.1 (λ q. turn.pieces_of_units.ensures.sorted unit q small)
+      ∙ unit_members (get_or sets unit []) units (length units) unit of_units.few (λ q. of_units.sorted unit q small)
 
   abbrev entries_of : Matrix → List ℕ
   entries_of words = place_entries words turn.loop-k.seats pieces
 
   room : length turn.loop-k.self-inside.entries.items + (length (entries_of turn.args.edges.now.conflicts) + length (entries_of turn.args.edges.now.stitches)) ≤ 131_584
   room = turn_room (known turn) turn.loop-k.invariant (omega arith)
-
-pub pieces_of_units-requires-clause-empty : goal.pieces_of_units-requires-clause-empty
-pieces_of_units-requires-clause-empty c = none_there c.empty-of_units.result c.empty-of_units.ensures
 
 pub list_place-requires : goal.list_place-requires
 list_place-requires c =
