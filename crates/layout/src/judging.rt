@@ -84,7 +84,8 @@ fn overlaps_earlier(pieces: &[Piece], j: usize) -> bool
         .any(|earlier| pieces_overlap(*earlier, piece))
 }
 
-// Question 6 of the pieces.
+// Question 6 of the pieces. In a frame of its own: inlined into a reader, its loop over pairs has no registers of its own, and a reading takes a third longer.
+#[inline(never)]
 #[tactic(auto, using(rules::proofs::Outcomes::each_next, rules::proofs::Outcomes::each_refused), unfolding(rules::specs::Questions::ask_each, rules::specs::Questions::judge_overlaps))]
 pub fn judge_overlaps(pieces: &[Piece]) -> Result<(), Refused>
     requires { length pieces.now ≤ 512 }
