@@ -1,5 +1,5 @@
 // Question 14 (RULES 18): no piece has another fixed mask than an earlier one of its unit. With the questions of layout it is the whole judgement of a layer.
-// Reading, writing, scoring, the decomposition and the call on two pieces stand on this crate.
+// Reading, writing, scoring and the decomposition stand on this crate.
 #![tactic(auto)]
 
 ghost use Rattle.std.specs.Prelude.{◌≡◌, ◌≤◌, length, IfOk};
