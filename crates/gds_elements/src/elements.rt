@@ -32,7 +32,7 @@ fn read_element(records: &mut Records) -> Result<Piece, Refused>
 }
 
 // How many elements there are, with the pieces of the first 512. The rules count more than they keep, so the count is not the list's length.
-#[derive(Drop)]
+#[derive(Clone, Copy, Drop)]
 pub struct Elements {
     pub count: usize,
     pub pieces: Pieces,

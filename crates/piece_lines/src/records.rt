@@ -9,18 +9,31 @@ ghost use Rattle.rules.specs.Settings.{no_piece};
 use rules::Piece;
 use std::marker::Model;
 
-#[derive(Drop)]
+#[derive(Clone, Copy, Drop)]
 pub struct Pieces {
     records: [Piece; 512],
     count: usize,
 }
 
 impl Model for Pieces {
+    ghost use Rattle.std.specs.Prelude.{◌≡◌, ◌++◌, ℕ, ◌-◌, ◌≤◌, List, drop, length, replicate, take};
+    ghost use Rattle.std.proofs.Common.{arith, ap, sym, ◌∙◌, length-take-le, take-append-drop};
+    ghost use Rattle.rules.specs.declared.layer.Piece.{Piece};
+    ghost use Rattle.rules.specs.Answers.{in_records};
+    ghost use Rattle.rules.specs.Settings.{no_piece};
+
     ghost Value = { List Piece };
 
     ghost view = { λ p. take p.count p.records };
 
     ghost invariant = { λ p. (p.count ≤ 512) × (length p.records ≡ 512) × (drop p.count p.records ≡ replicate (512 - p.count) no_piece) };
+
+    ghost inverse = { λ ps. record { records = in_records ps; count = length ps } };
+
+    ghost inverse_ok = { λ p h i. record {
+      records = (ap (λ (l : List Piece). take p.count p.records ++ l) (ap (λ (n : ℕ). replicate (512 - n) no_piece) (length-take-le p.count p.records (omega (arith, h.0, h.1))) ∙ sym h.2) ∙ take-append-drop p.count p.records) i;
+      count = length-take-le p.count p.records (omega (arith, h.0, h.1)) i;
+    } };
 }
 
 impl Pieces {

@@ -1,6 +1,6 @@
 use Rattle.std.proofs.Common.{refl, sym, arith}
 use Rattle.std.proofs.lemmas.Result.{err_from_is_err_and}
-use Rattle.gds_elements.proofs.CollectLaws.{fewer, stops_here, pushed, full, one_further, all_read}
+use Rattle.gds_elements.proofs.CollectLaws.{none_yet, fewer, stops_here, pushed, full, one_further, all_read}
 use Rattle.gds_elements.proofs.elements.read_elements.Goals as goal
 use Rattle.gds_elements.proofs.elements.read_elements.Goals.{then-elements-lt-COUNT_GREATEST, else-elements-lt-COUNT_GREATEST}
 
@@ -8,6 +8,9 @@ pub returns-in_err-piece-clause-elements : goal.returns-in_err-piece-clause-elem
 returns-in_err-piece-clause-elements c =
     let p = err_from_is_err_and c.from_residual.result c.from_residual.ensures.1 in
     rw (p.1, p.2) (stops_here _ _ _ _ _ _ c.loop-records.invariant (sym c.loop-records-test.ensures) _ _ c.in_err-piece.ensures.element)
+
+pub loop-records-init : goal.loop-records-init
+loop-records-init c = rw c.none.ensures (none_yet _ _)
 
 pub push-requires : goal.push-requires
 push-requires c = omega (arith, fewer c.loop-records.invariant)
