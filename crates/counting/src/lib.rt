@@ -30,7 +30,7 @@ pub fn on_two_masks(a: u8, b: u8) -> bool
 }
 
 // Whether an edge counts whose ends have these masks. A conflict edge does on one mask, a stitch edge on two.
-pub fn counts(edge: Edge, a: u8, b: u8) -> bool
+fn counts(edge: Edge, a: u8, b: u8) -> bool
     ensures { result ≡ edge_counts edge a b }
 {
     match edge {
