@@ -30,7 +30,7 @@ pub fn on_two_masks(a: u8, b: u8) -> bool
 }
 
 // Whether an edge counts whose ends have these masks. A conflict edge does on one mask, a stitch edge on two.
-fn counts(edge: Edge, a: u8, b: u8) -> bool
+pub fn counts(edge: Edge, a: u8, b: u8) -> bool
     ensures { result ≡ edge_counts edge a b }
 {
     match edge {
@@ -92,4 +92,38 @@ pub fn score_edges(weight: u32, edges: &EdgeSets, masks: &[u8]) -> Score
         stitches += count_edges(Edge::Stitch, &edges.stitches, masks, j);
     }
     score_of(weight, conflicts, stitches)
+}
+
+#[cfg(test)]
+mod tests {
+    use super::*;
+    use rules::Piece;
+
+    // RULES 3: a conflict edge counts where both masks are set and one, a stitch edge where both are set and differ. What is wrong is handed back.
+    #[test]
+    fn edges_that_count() -> Result<(), (Edge, u8, u8)> {
+        for (edge, a, b, wanted) in [
+            (Edge::Conflict, 0, 0, true),
+            (Edge::Conflict, 7, 7, true),
+            (Edge::Conflict, 0, 1, false),
+            (Edge::Conflict, Piece::UNSET, 0, false),
+            (Edge::Conflict, 0, Piece::UNSET, false),
+            (Edge::Conflict, Piece::UNSET, Piece::UNSET, false),
+            (Edge::Stitch, 0, 0, false),
+            (Edge::Stitch, 0, 1, true),
+            (Edge::Stitch, 7, 0, true),
+            (Edge::Stitch, Piece::UNSET, 0, false),
+            (Edge::Stitch, 0, Piece::UNSET, false),
+            (Edge::Stitch, Piece::UNSET, Piece::UNSET, false),
+            (Edge::Tie, 0, 0, false),
+            (Edge::Tie, 0, 1, false),
+            (Edge::None, 0, 0, false),
+            (Edge::None, 0, 1, false),
+        ] {
+            if counts(edge, a, b) != wanted {
+                return Err((edge, a, b));
+            }
+        }
+        Ok(())
+    }
 }
